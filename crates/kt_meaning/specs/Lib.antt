@@ -1,0 +1,5 @@
+pub mod Steps
+pub mod Tree
+pub mod Operators
+pub mod Thread
+pub mod Settling

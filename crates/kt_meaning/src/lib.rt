@@ -1,0 +1,5 @@
+//! What a program of the first form is, and what its thread does step by step.
+#![tactic(auto)]
+
+pub mod acts;
+pub mod tree;
