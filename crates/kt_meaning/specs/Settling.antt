@@ -66,3 +66,4 @@ settle_by-traps step weight x t e = stops step weight x (Traps t) (weight x) e (
 pub settle_by-ends : {X : Type 0} (step : X → Step X) (weight : X → ℕ) (x : X) (v : ℤ) →
     step x ≡ Ends v → settle_by step weight x ≡ Ends v
 settle_by-ends step weight x v e = stops step weight x (Ends v) (weight x) e (λ later. refl)
+
