@@ -4,7 +4,7 @@ use Rattle.std.proofs.Common.{arith, ◌∙◌, sym, ap}
 use Rattle.kt_meaning.specs.declared.acts.Act.{Act}
 use Rattle.kt_meaning.specs.declared.acts.Reply.{Reply}
 use Rattle.kt_meaning.specs.declared.acts.Trap.{Trap}
-use Rattle.kt_meaning.specs.Steps.{Step, Quiet, Acts, Traps, Ends, and_then_settle, settle_within, settle_by, IsLowering}
+use Rattle.kt_meaning.specs.Steps.{Step, Quiet, Acts, Traps, Ends, and_then_settle, settle_within, settle_by, IsLowering, ComesQuietly, IsHead, Settles}
 
 -- a state of measure 0 has no quiet step
 at_rest : {X : Type 0} (step : X → Step X) (weight : X → ℕ) → IsLowering step weight → (n : ℕ) (x : X) (s : Step X) →
@@ -67,3 +67,33 @@ pub settle_by-ends : {X : Type 0} (step : X → Step X) (weight : X → ℕ) (x 
     step x ≡ Ends v → settle_by step weight x ≡ Ends v
 settle_by-ends step weight x v e = stops step weight x (Ends v) (weight x) e (λ later. refl)
 
+at_once : {X : Type 0} (step : X → Step X) (x : X) (s : Step X) → step x ≡ s → IsHead s → Settles step x s
+at_once step x s e h = record { count = 0; state = x; comes = refl; steps = e; is_head = h }
+
+one_earlier : {X : Type 0} (step : X → Step X) (x y : X) (s : Step X) → step x ≡ Quiet y → Settles step y s → Settles step x s
+one_earlier step x y s e h = record { count = suc h.count; state = h.state; comes = (y, e, h.comes); steps = h.steps; is_head = h.is_head }
+
+settles_after : {X : Type 0} (step : X → Step X) (weight : X → ℕ) → IsLowering step weight → (n : ℕ) (x : X) (s : Step X) →
+    weight x ≤ suc n → step x ≡ s → ((y : X) → weight y ≤ n → Settles step y (settle_within step n y)) →
+    Settles step x (and_then_settle (settle_within step n) s)
+settles_after step weight l n x (Quiet y) h e later =
+    let lower = l.lower x y e in
+    let low : weight y ≤ n = omega arith in
+    one_earlier step x y (settle_within step n y) e (later y low)
+settles_after step weight l n x (Acts a go) h e later = at_once step x (Acts a go) e tt
+settles_after step weight l n x (Traps t) h e later = at_once step x (Traps t) e tt
+settles_after step weight l n x (Ends v) h e later = at_once step x (Ends v) e tt
+
+rests : {X : Type 0} (step : X → Step X) (weight : X → ℕ) → IsLowering step weight → (x : X) (s : Step X) →
+    weight x ≤ 0 → step x ≡ s → IsHead s
+rests step weight l x (Quiet y) h e = let lower = l.lower x y e in absurd (omega arith)
+rests step weight l x (Acts a go) h e = tt
+rests step weight l x (Traps t) h e = tt
+rests step weight l x (Ends v) h e = tt
+
+-- settling ends, in an act, a trap or an end, after quiet steps alone
+pub settle_within-settles : {X : Type 0} (step : X → Step X) (weight : X → ℕ) → IsLowering step weight → (n : ℕ) (x : X) →
+    weight x ≤ n → Settles step x (settle_within step n x)
+settle_within-settles step weight l zero x h = at_once step x (step x) refl (rests step weight l x (step x) h refl)
+settle_within-settles step weight l (suc n) x h =
+    settles_after step weight l n x (step x) h refl (λ y. settle_within-settles step weight l n y)

@@ -35,6 +35,26 @@ settle_by step weight x = settle_within step (weight x) x
 pub record IsLowering {X : Type 0} (step : X → Step X) (weight : X → ℕ) : Type 0 where
   pub lower : (x y : X) → step x ≡ Quiet y → weight y < weight x
 
+-- y comes after k quiet steps from x
+abbrev pub ComesQuietly : {X : Type 0} → (X → Step X) → ℕ → X → X → Type 0
+ComesQuietly step zero x y = x ≡ y
+ComesQuietly {X = X} step (suc k) x y = (z : X) × (step x ≡ Quiet z) × ComesQuietly step k z y
+
+-- the step is an act, a trap or an end
+abbrev pub IsHead : {X : Type 0} → Step X → Type 0
+IsHead (Quiet y) = ⊥
+IsHead (Acts a go) = Unit {0}
+IsHead (Traps t) = Unit {0}
+IsHead (Ends v) = Unit {0}
+
+-- some number of quiet steps leads from x to a state with this head
+pub record Settles {X : Type 0} (step : X → Step X) (x : X) (head : Step X) : Type 0 where
+  pub count : ℕ
+  pub state : X
+  pub comes : ComesQuietly step count x state
+  pub steps : step state ≡ head
+  pub is_head : IsHead head
+
 -- the same act, trap or end; after an act the two go on in states that P relates, whatever the reply
 abbrev pub SameHead : {X Y : Type 0} → (X → Y → Type 0) → Step X → Step Y → Type 0
 SameHead P (Quiet x) t = ⊥

@@ -11,8 +11,8 @@ use Rattle.kt_meaning.specs.declared.tree.Expr.TheVariants.{Single, Binary}
 use Rattle.kt_meaning.specs.Tree.{Statement, Assigning, Putting, Returning, Choosing, Looping, Block, Empty, Then}
 use Rattle.kt_meaning.specs.Operators.{apply, is_zero}
 use Rattle.kt_meaning.specs.Thread.{Part, Run, Do, Eval, Have, Right, Left, Assigns, Puts, Returns, Chooses, Loops, Work, begin, operand_step, eval_step, with_result, take_step, step, expr_weight, statement_weight, block_weight, part_weight, weight, settle}
-use Rattle.kt_meaning.specs.Steps.{Step, Quiet, Acts, Traps, Ends, IsLowering}
-use Rattle.kt_meaning.specs.Settling.{settle_by-quiet, settle_by-acts, settle_by-traps, settle_by-ends}
+use Rattle.kt_meaning.specs.Steps.{Step, Quiet, Acts, Traps, Ends, IsLowering, Settles}
+use Rattle.kt_meaning.specs.Settling.{settle_by-quiet, settle_by-acts, settle_by-traps, settle_by-ends, settle_within-settles}
 
 -- a step is no quiet one, or it lowers the measure below n
 abbrev Lowers : ℕ → Step Work → Type 0
@@ -94,3 +94,8 @@ settle-traps w t e = settle_by-traps step weight w t e
 pub settle-ends : (w : Work) (v : ℤ) → step w ≡ Ends v → settle w ≡ Ends v
 unfolding settle
 settle-ends w v e = settle_by-ends step weight w v e
+
+-- settling ends in one act, trap or end
+pub settle-settles : (w : Work) → Settles step w (settle w)
+unfolding settle
+settle-settles w = let here : weight w ≤ weight w = omega arith in settle_within-settles step weight step-IsLowering (weight w) w here

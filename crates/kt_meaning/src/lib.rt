@@ -2,4 +2,5 @@
 #![tactic(auto)]
 
 pub mod acts;
+pub mod laws;
 pub mod tree;
