@@ -59,6 +59,15 @@ pub struct MemSink {
     ghost reserved: { room ≤ vec_capacity taken },
 }
 
+/// Counts one more call, and says whether it is one that fails.
+fn fails(calls: &mut u64, fail_on: &[u64]) -> bool
+    ensures counted { calls.new ≡ one_more calls.old }
+    ensures listed { result ≡ fails_next fail_on.now calls.old }
+{
+    *calls = calls.saturating_add(1);
+    fail_on.contains(calls)
+}
+
 /// The bytes of the first entry of that name.
 fn first_entry<'a>(entries: &'a [(String, Vec<u8>)], name: &str) -> Option<&'a Vec<u8>>
     ensures { option_map (λ v. v.now.items) result ≡ bytes_of (file_map entries.now) name.now }
@@ -94,8 +103,7 @@ impl Files for MemFiles {
           faults = count_after self.old.faults (fails_next self.old.fail_on.items self.old.calls);
         } }
     {
-        self.calls = self.calls.saturating_add(1);
-        if self.fail_on.contains(&self.calls) {
+        if fails(&mut self.calls, &self.fail_on) {
             self.faults = self.faults.saturating_add(1);
             return Err(FileEnd::Failed);
         }
@@ -126,8 +134,7 @@ impl Source for MemSource {
         ensures count { self.new.faults ≡ count_after self.old.faults (is_err result) }
         ensures same { (self.new.piece ≡ self.old.piece) × (self.new.fail_on ≡ self.old.fail_on) }
     {
-        self.calls = self.calls.saturating_add(1);
-        if self.fail_on.contains(&self.calls) {
+        if fails(&mut self.calls, &self.fail_on) {
             self.faults = self.faults.saturating_add(1);
             return Err(Failed);
         }
@@ -183,10 +190,10 @@ impl Sink for MemSink {
         ensures count { self.new.faults ≡ count_after self.old.faults (is_err result) }
         ensures same { (self.new.room ≡ self.old.room) × (self.new.piece ≡ self.old.piece) × (self.new.fail_on ≡ self.old.fail_on) }
     {
-        self.calls = self.calls.saturating_add(1);
+        let is_listed = fails(&mut self.calls, &self.fail_on);
         let left = self.room as usize - self.taken.len();
         let is_full = left == 0 && !bytes.is_empty();
-        if is_full || self.fail_on.contains(&self.calls) {
+        if is_listed || is_full {
             self.faults = self.faults.saturating_add(1);
             return Err(Failed);
         }
