@@ -1,9 +1,13 @@
 -- Counts of faults: when one rose, and that a failure comes only where it did.
-use Rattle.std.specs.Prelude.{ℕ, ◌+◌, ◌-◌, ◌^◌, ◌≤◌, min, Result, IsErr}
+use Rattle.std.specs.Prelude.{ℕ, ◌+◌, ◌-◌, ◌^◌, ◌≤◌, min, Bool, if◌then◌else◌, Result, IsErr}
 
 -- one more, up to the last value of 64 bits, where a count stays
 abbrev pub one_more : ℕ → ℕ
 one_more n = min (n + 1) (2 ^ 64 - 1)
+
+-- the count after a call that failed, or that did not
+abbrev pub count_after : ℕ → Bool → ℕ
+count_after faults failed = if failed then one_more faults else faults
 
 -- the count is greater than before, or stands at its last value
 abbrev pub Rose : ℕ → ℕ → Type 0

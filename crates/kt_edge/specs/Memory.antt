@@ -1,5 +1,5 @@
 -- The devices in memory: which of their calls fail.
-use Rattle.std.specs.Prelude.{ℕ, ◌≡◌, ◌==◌, Bool, List, String, Vec, if◌then◌else◌, map, string_bytes}
+use Rattle.std.specs.Prelude.{ℕ, ◌≡◌, ◌==◌, Bool, List, String, Vec, map, string_bytes}
 use Rattle.std.specs.declared.alloc.Global.{Global}
 use Rattle.std.specs.List.{list_any}
 use Rattle.kt_edge.specs.Count.{one_more}
@@ -8,10 +8,6 @@ use Rattle.kt_edge.specs.FileMap.{FileMap}
 -- after so many calls, whether the next one is among those that fail; calls are counted from 1
 abbrev pub fails_next : List ℕ → ℕ → Bool
 fails_next fail_on calls = list_any (λ call. call == one_more calls) fail_on
-
--- the count after a call that failed or did not
-abbrev pub count_after : ℕ → Bool → ℕ
-count_after faults failed = if failed then one_more faults else faults
 
 -- the names and bytes of the entries
 abbrev pub file_map : List (String Global × Vec ℕ Global) → FileMap

@@ -1,6 +1,8 @@
 //! The host's files and streams. Nobody knows their bytes, so they tell nothing. Each counts its faults.
 
-ghost use Rattle.std.specs.Prelude.{◌≡◌, ◌≤◌, None, IfOk, vec_len};
+ghost use Rattle.std.specs.Prelude.{◌≡◌, ◌+◌, ◌<◌, ◌≤◌, None, IfOk, IsErrOf, is_err, vec_len};
+ghost use Rattle.std.specs.Io.{ReadsAtMost, WritesAtMost};
+ghost use Rattle.kt_edge.specs.Count.{HasCause, Rose, count_after, one_more};
 
 use crate::whole::read_start;
 use crate::{Failed, FileEnd, Files, ReadEnd, Sink, Source};
@@ -77,7 +79,16 @@ impl<R: rt::Files> Files for HostFiles<R> {
 
     ghost faults = { λ files. files.faults };
 
-    fn read(&mut self, alloc: Global, name: &str, limit: u32) -> Result<Vec<u8>, FileEnd> {
+    fn read(&mut self, alloc: Global, name: &str, limit: u32) -> Result<Vec<u8>, FileEnd>
+        ensures bound { IfOk result (λ v. vec_len v ≤ limit + 1) }
+        ensures later { self.old.faults ≤ self.new.faults }
+        ensures failed { IsErrOf result FileEnd.Failed → Rose self.old.faults self.new.faults }
+        ensures missing { IsErrOf result FileEnd.Missing → ⊥ }
+
+        // The count rises by one where it answers `Failed`, and nowhere else.
+        ensures rises { IsErrOf result FileEnd.Failed → self.new.faults ≡ one_more self.old.faults }
+        ensures stays { ¬ IsErrOf result FileEnd.Failed → self.new.faults ≡ self.old.faults }
+    {
         match read_file(alloc, &self.runtime, name, limit as usize + 1) {
             Ok(bytes) => Ok(bytes),
             Err(ReadEnd::NoMemory) => Err(FileEnd::NoMemory),
@@ -94,7 +105,11 @@ impl<R: io::Read> Source for HostSource<R> {
 
     ghost faults = { λ source. source.faults };
 
-    fn read(&mut self, buf: &mut [u8]) -> Result<usize, Failed> {
+    fn read(&mut self, buf: &mut [u8]) -> Result<usize, Failed>
+        ensures bound { ReadsAtMost result buf.new }
+        ensures cause { HasCause self.old.faults self.new.faults result }
+        ensures count { self.new.faults ≡ count_after self.old.faults (is_err result) }
+    {
         match self.reader.read(buf) {
             Ok(count) => Ok(count),
             Err(_) => {
@@ -110,7 +125,12 @@ impl<W: io::Write> Sink for HostSink<W> {
 
     ghost faults = { λ sink. sink.faults };
 
-    fn write(&mut self, bytes: &[u8]) -> Result<usize, Failed> {
+    fn write(&mut self, bytes: &[u8]) -> Result<usize, Failed>
+        ensures bound { WritesAtMost result bytes.now }
+        ensures some { IfOk result (λ n. 0 < n) }
+        ensures cause { HasCause self.old.faults self.new.faults result }
+        ensures count { self.new.faults ≡ count_after self.old.faults (is_err result) }
+    {
         match self.writer.write(bytes) {
             Ok(0) | Err(_) => {
                 self.faults = self.faults.saturating_add(1);

@@ -3,9 +3,9 @@
 ghost use Rattle.std.specs.Prelude.{◌≡◌, ◌↔◌, ◌+◌, ◌-◌, ◌<◌, ◌≤◌, ◌⊎◌, [], length, min, option_map, Some, IfOk, IsErr, IsErrOf, IsFalse, IsTrue, is_err, vec_len, vec_capacity};
 ghost use Rattle.std.specs.Io.{ReadsAtMost, WritesAtMost};
 ghost use Rattle.std.specs.Io.KnownBytes.{ReadConsumes, WriteAppends};
-ghost use Rattle.kt_edge.specs.Count.{HasCause, Rose, one_more};
+ghost use Rattle.kt_edge.specs.Count.{HasCause, Rose, count_after, one_more};
 ghost use Rattle.kt_edge.specs.FileMap.{bytes_of, Lacks, StartsFile};
-ghost use Rattle.kt_edge.specs.Memory.{count_after, fails_next, file_map};
+ghost use Rattle.kt_edge.specs.Memory.{fails_next, file_map};
 
 use crate::{Failed, FileEnd, Files, Sink, Source};
 use std::alloc::{AllocError, Global};
