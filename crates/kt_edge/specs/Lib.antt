@@ -1,0 +1,4 @@
+pub mod Count
+pub mod FileMap
+pub mod Memory
+pub mod Writes
