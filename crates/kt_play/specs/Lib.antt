@@ -1,0 +1,4 @@
+pub mod World
+pub mod Journal
+pub mod Status
+pub mod Outcome

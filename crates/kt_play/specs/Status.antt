@@ -1,0 +1,48 @@
+-- What the answers of `play` are: the end of a run, or a refusal with its log line.
+use Rattle.std.specs.Prelude.{ℕ, List, ◌++◌, Option, Some, None, codes}
+use Rattle.std.specs.Fmt.{decimal}
+use Rattle.kt_play.specs.declared.end.End.{End}
+use Rattle.kt_play.specs.declared.end.End.TheVariants as end
+use Rattle.kt_play.specs.declared.status.Which.TheVariants.{File}
+use Rattle.kt_play.specs.declared.status.Cause.TheVariants.{Later}
+use Rattle.kt_play.specs.declared.status.Status.{Status}
+use Rattle.kt_play.specs.declared.status.Status.TheVariants.{Main, Trap, Budget, Words, ReadFault, Refused, WriteFault, NoMemory}
+
+-- the answer at the end of a run
+abbrev pub status_of : End → Status
+status_of (end.Main v) = Main v
+status_of (end.Trap t cause) = Trap t cause
+status_of end.Budget = Budget
+
+-- the end of a run that was written whole
+abbrev pub end_of : Status → Option End
+end_of (Main v) = Some (end.Main v)
+end_of (Trap t cause) = Some (end.Trap t cause)
+end_of Budget = Some end.Budget
+end_of Words = None
+end_of (ReadFault which) = None
+end_of (Refused file cause) = None
+end_of WriteFault = None
+end_of NoMemory = None
+
+-- the line that a refusal writes into the log
+abbrev pub refusal_line : Status → Option (List ℕ)
+refusal_line (Main v) = None
+refusal_line (Trap t cause) = None
+refusal_line Budget = None
+refusal_line Words = Some (codes "refuse words\n")
+refusal_line (ReadFault (File n)) = Some (codes "refuse read " ++ (decimal n ++ codes "\n"))
+refusal_line (Refused n (Later at)) = Some (codes "refuse " ++ (decimal n ++ (codes " later " ++ (decimal at ++ codes "\n"))))
+refusal_line WriteFault = None
+refusal_line NoMemory = None
+
+-- the exit status of a program that answers so
+abbrev pub exit_of : Status → ℕ
+exit_of (Main v) = 0
+exit_of (Trap t cause) = 10
+exit_of Budget = 11
+exit_of Words = 2
+exit_of (ReadFault which) = 3
+exit_of (Refused file cause) = 4
+exit_of WriteFault = 5
+exit_of NoMemory = 7
