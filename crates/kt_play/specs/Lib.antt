@@ -1,4 +1,8 @@
-pub mod World
+pub mod Form
 pub mod Journal
-pub mod Status
+pub mod Order
 pub mod Outcome
+pub mod Pieces
+pub mod Run
+pub mod Status
+pub mod World

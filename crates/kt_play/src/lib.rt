@@ -2,7 +2,10 @@
 #![tactic(auto)]
 
 pub mod end;
+mod form;
 pub mod journal;
+pub mod order;
+pub mod prepare;
 pub mod refusal;
 pub mod refuse;
 pub mod report;
