@@ -1,2 +1,6 @@
+mod ActLemmas
+mod AnswerLemmas
 mod FileLemmas
 mod JournalLemmas
+mod OutcomeLemmas
+mod RunLemmas

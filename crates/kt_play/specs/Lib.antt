@@ -1,3 +1,4 @@
+pub mod Answer
 pub mod Form
 pub mod Journal
 pub mod Order
@@ -6,3 +7,6 @@ pub mod Pieces
 pub mod Run
 pub mod Status
 pub mod World
+pub mod Machine
+pub mod Report
+pub mod Unique

@@ -13,16 +13,16 @@ use Rattle.kt_play.specs.declared.status.Status.TheVariants.{Main, Trap, Budget,
 abbrev pub FailsToWrite : Writes → Writes → (log_untouched : Type 0) → (output journal : List ℕ) → Type 0
 FailsToWrite out log log_untouched output journal = (FailsIn out output × log_untouched) ⊎ (Takes out output × FailsIn log journal)
 
--- the output and then the journal of a run that ended so were written, or a sink failed
-abbrev pub IsWritten : Status → End → Writes → Writes → (log_untouched : Type 0) → (output journal : List ℕ) → Type 0
-IsWritten (Main v) how out log log_untouched output journal = (how ≡ end.Main v) × Takes out output × Takes log journal
-IsWritten (Trap t cause) how out log log_untouched output journal = (how ≡ end.Trap t cause) × Takes out output × Takes log journal
-IsWritten Budget how out log log_untouched output journal = (how ≡ end.Budget) × Takes out output × Takes log journal
-IsWritten WriteFault how out log log_untouched output journal = FailsToWrite out log log_untouched output journal
-IsWritten Words how out log log_untouched output journal = ⊥
-IsWritten (ReadFault which) how out log log_untouched output journal = ⊥
-IsWritten (Refused file cause) how out log log_untouched output journal = ⊥
-IsWritten NoMemory how out log log_untouched output journal = ⊥
+-- the output and then the journal of a run that ended so were written, or a sink failed, or nothing was written
+abbrev pub IsWritten : Status → End → Writes → Writes → (untouched log_untouched : Type 0) → (output journal : List ℕ) → Type 0
+IsWritten (Main v) how out log untouched log_untouched output journal = (how ≡ end.Main v) × Takes out output × Takes log journal
+IsWritten (Trap t cause) how out log untouched log_untouched output journal = (how ≡ end.Trap t cause) × Takes out output × Takes log journal
+IsWritten Budget how out log untouched log_untouched output journal = (how ≡ end.Budget) × Takes out output × Takes log journal
+IsWritten WriteFault how out log untouched log_untouched output journal = FailsToWrite out log log_untouched output journal
+IsWritten NoMemory how out log untouched log_untouched output journal = untouched × log_untouched
+IsWritten Words how out log untouched log_untouched output journal = ⊥
+IsWritten (ReadFault which) how out log untouched log_untouched output journal = ⊥
+IsWritten (Refused file cause) how out log untouched log_untouched output journal = ⊥
 
 -- the journal of a run that ended so was written, or the log failed
 abbrev pub IsLogged : Status → End → Writes → (journal : List ℕ) → Type 0

@@ -57,13 +57,6 @@ pub record IsOutsideForm (told : Option FileMap) (name : List ℕ) : Type 0 wher
   pub holds : Holds told name bytes
   pub no_program : (source : Source) → IsProgramText bytes source → ⊥
 
--- a run of what the words name
-pub record IsRunOfWords (words : List (List ℕ)) (told : Option FileMap) (how : End) (output journal : List ℕ) : Type 0 where
-  pub source : Source
-  pub turns : List ℕ
-  pub accepted : IsAccepted words told source
-  pub run : IsRun source turns how output journal
-
 -- why no program is in these bytes: they are the text of none
 abbrev pub IsNoProgram : Refusal → List ℕ → Type 0
 IsNoProgram refusal.Words bytes = ⊥
