@@ -1,12 +1,11 @@
-//! Runs the program that its words name: its output on standard output, its journal on standard error.
+//! Runs the program in the file that its word names: its output on standard output, its journal on standard error.
 #![tactic(auto)]
 
 use kt_edge::{HostFiles, HostSink, HostSource};
 use kt_play::play::play;
 use kt_play::status::{Status, exit_code};
-use std::alloc::AllocError;
-use std::env;
 use std::process::ExitCode;
+use std::{env, io};
 
 fn main(rt: HostRuntime) -> ExitCode {
     let status = match words(&rt) {
@@ -21,4 +20,20 @@ fn main(rt: HostRuntime) -> ExitCode {
         Err(status) => status,
     };
     ExitCode::from(exit_code(status))
+}
+
+// The words behind the program's name. Words that are no text are no order.
+fn words(rt: &HostRuntime) -> Result<Vec<String>, Status> {
+    let mut words = Vec::new(rt.alloc());
+    for word in env::args(rt).map_err(status_of)?.skip(1) {
+        words.push(word).map_err(|_| Status::NoMemory)?;
+    }
+    Ok(words)
+}
+
+fn status_of(error: io::Error) -> Status {
+    match error.kind() {
+        io::ErrorKind::OutOfMemory => Status::NoMemory,
+        _ => Status::Words,
+    }
 }

@@ -14,3 +14,6 @@ pub mod refuse;
 pub mod report;
 pub mod run;
 pub mod status;
+
+#[cfg(test)]
+mod tests;

@@ -1,0 +1,1 @@
+int main(){putchar('A');return 0;}

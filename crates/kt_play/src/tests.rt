@@ -1,0 +1,197 @@
+//! The worked programs over the devices in memory, and each device failing in turn.
+
+use crate::play::play;
+use crate::status::{Cause, Status, Which};
+use kt_edge::{MemFiles, MemSink, MemSource};
+use kt_meaning::acts::Trap;
+use std::alloc::{AllocError, Global};
+use std::test::Fail;
+
+const FIRST: &str = "int main(){putchar('A');return 0;}";
+const APPEND: &str = "int n; int main(){while(n<3){putchar('a');n=n+1;}return n;}";
+const OVERFLOW: &str = "int n=2147483647; int main(){n=n+1;return 0;}";
+const ENDLESS: &str = "int main(){while(1){}}";
+
+const APPEND_JOURNAL: &str = "kit 1\nturn 0 18\nend main 3\n";
+
+struct Played {
+    status: Status,
+    out: Vec<u8>,
+    log: Vec<u8>,
+    faults: u64,
+}
+
+// How many bytes a sink takes at once, and which of its writes fails (0: none).
+#[derive(Clone, Copy)]
+struct Device {
+    piece: u32,
+    fail_on: u64,
+}
+
+const STEADY: Device = Device {
+    piece: 1000,
+    fail_on: 0,
+};
+
+fn sink(alloc: Global, device: Device) -> Result<MemSink, AllocError> {
+    let piece = device.piece.max(1);
+    MemSink::new(alloc, 1000, piece, [device.fail_on].to_vec(alloc)?)
+}
+
+fn files(alloc: Global, text: &str, fail_on: u64) -> Result<MemFiles, AllocError> {
+    let mut entries = Vec::new(alloc);
+    entries.push((String::from_str(alloc, "one.c")?, text.as_bytes().to_vec(alloc)?))?;
+    Ok(MemFiles {
+        entries,
+        fail_on: [fail_on].to_vec(alloc)?,
+        calls: 0,
+        faults: 0,
+    })
+}
+
+fn call(
+    alloc: Global,
+    words: &[&str],
+    mut files: MemFiles,
+    out: Device,
+    log: Device,
+) -> Result<Played, AllocError> {
+    let mut list = Vec::new(alloc);
+    for word in words {
+        list.push(String::from_str(alloc, word)?)?;
+    }
+    let mut input = MemSource {
+        rest: Vec::new(alloc),
+        piece: 1,
+        fail_on: Vec::new(alloc),
+        calls: 0,
+        faults: 0,
+    };
+    let mut out = sink(alloc, out)?;
+    let mut log = sink(alloc, log)?;
+    let status = play(alloc, list.as_slice(), &mut files, &mut input, &mut out, &mut log);
+    Ok(Played {
+        status,
+        out: out.taken.clone()?,
+        log: log.taken.clone()?,
+        faults: files.faults,
+    })
+}
+
+fn run(alloc: Global, text: &str) -> Result<Played, AllocError> {
+    call(alloc, &["one.c"], files(alloc, text, 0)?, STEADY, STEADY)
+}
+
+fn expect(rt: &impl std::process::Abort, played: &Played, status: Status, out: &str, log: &str) {
+    assert_eq!(rt; played.status, status);
+    assert_eq!(rt; played.out.as_slice(), out.as_bytes());
+    assert_eq!(rt; played.log.as_slice(), log.as_bytes());
+}
+
+#[test]
+fn first_program(rt: HostRuntime) -> Result<(), Fail> {
+    let played = run(rt.alloc(), FIRST)?;
+    expect(&rt, &played, Status::Main(0), "A", "kit 1\nturn 0 2\nend main 0\n");
+    Ok(())
+}
+
+#[test]
+fn append_loop_counts_turns(rt: HostRuntime) -> Result<(), Fail> {
+    let played = run(rt.alloc(), APPEND)?;
+    expect(&rt, &played, Status::Main(3), "aaa", APPEND_JOURNAL);
+    Ok(())
+}
+
+#[test]
+fn overflow_traps(rt: HostRuntime) -> Result<(), Fail> {
+    let played = run(rt.alloc(), OVERFLOW)?;
+    let status = Status::Trap {
+        thread: 0,
+        cause: Trap::Overflow,
+    };
+    expect(&rt, &played, status, "", "kit 1\nturn 0 2\nend trap 0 overflow\n");
+    Ok(())
+}
+
+#[test]
+fn budget_ends_an_endless_loop(rt: HostRuntime) -> Result<(), Fail> {
+    let played = run(rt.alloc(), ENDLESS)?;
+    expect(&rt, &played, Status::Budget, "", "kit 1\nturn 0 1000000\nend budget\n");
+    Ok(())
+}
+
+#[test]
+fn empty_file_is_later(rt: HostRuntime) -> Result<(), Fail> {
+    let played = run(rt.alloc(), "")?;
+    let status = Status::Refused {
+        file: 1,
+        cause: Cause::Later(0),
+    };
+    expect(&rt, &played, status, "", "refuse 1 later 0\n");
+    Ok(())
+}
+
+#[test]
+fn words_that_are_no_order(rt: HostRuntime) -> Result<(), Fail> {
+    for words in [[].as_slice(), &["one.c", "one.c"], &["-"], &["--x"], &[""]] {
+        let played = call(rt.alloc(), words, files(rt.alloc(), FIRST, 0)?, STEADY, STEADY)?;
+        expect(&rt, &played, Status::Words, "", "refuse words\n");
+    }
+    Ok(())
+}
+
+#[test]
+fn file_that_cannot_be_read(rt: HostRuntime) -> Result<(), Fail> {
+    let status = Status::ReadFault(Which::File(1));
+    for (name, fail_on, faults) in [("two.c", 0, 0), ("one.c", 1, 1)] {
+        let played = call(rt.alloc(), &[name], files(rt.alloc(), FIRST, fail_on)?, STEADY, STEADY)?;
+        expect(&rt, &played, status, "", "refuse read 1\n");
+        assert_eq!(rt; played.faults, faults, "at {name}");
+    }
+    Ok(())
+}
+
+// What has been taken by a sink with such pieces when the given write, counted from 1, fails.
+fn front(text: &str, piece: u32, failing: u64) -> &[u8] {
+    let taken = u64::from(piece).saturating_mul(failing.saturating_sub(1));
+    let bytes = text.as_bytes();
+    let taken = usize::try_from(taken).unwrap_or(usize::MAX).min(bytes.len());
+    &bytes[..taken]
+}
+
+#[test]
+fn each_write_fails_in_turn(rt: HostRuntime) -> Result<(), Fail> {
+    // The output takes 3 bytes and the journal 27: these are their writes with pieces of 1 and of 7 bytes.
+    for (piece, outs, logs) in [(1, 3, 27), (7, 1, 4)] {
+        for failing in 1..outs + 1 {
+            let broken = Device { piece, fail_on: failing };
+            let played = call(rt.alloc(), &["one.c"], files(rt.alloc(), APPEND, 0)?, broken, STEADY)?;
+            assert_eq!(rt; played.status, Status::WriteFault);
+            assert_eq!(rt; played.out.as_slice(), front("aaa", piece, failing));
+            assert!(rt; played.log.is_empty());
+        }
+        for failing in 1..logs + 1 {
+            let broken = Device { piece, fail_on: failing };
+            let played = call(rt.alloc(), &["one.c"], files(rt.alloc(), APPEND, 0)?, STEADY, broken)?;
+            assert_eq!(rt; played.status, Status::WriteFault);
+            assert_eq!(rt; played.out.as_slice(), b"aaa".as_slice());
+            assert_eq!(rt; played.log.as_slice(), front(APPEND_JOURNAL, piece, failing));
+        }
+        let steady = Device { piece, fail_on: 0 };
+        let played = call(rt.alloc(), &["one.c"], files(rt.alloc(), APPEND, 0)?, steady, steady)?;
+        expect(&rt, &played, Status::Main(3), "aaa", APPEND_JOURNAL);
+    }
+    Ok(())
+}
+
+#[test]
+fn a_refusal_keeps_its_answer_where_the_log_fails(rt: HostRuntime) -> Result<(), Fail> {
+    for (piece, failing) in [(1, 1), (1, 13), (7, 2)] {
+        let broken = Device { piece, fail_on: failing };
+        let played = call(rt.alloc(), &[], files(rt.alloc(), FIRST, 0)?, STEADY, broken)?;
+        assert_eq!(rt; played.status, Status::Words);
+        assert!(rt; played.out.is_empty());
+        assert_eq!(rt; played.log.as_slice(), front("refuse words\n", piece, failing));
+    }
+    Ok(())
+}
