@@ -68,16 +68,11 @@ fn fails(calls: &mut u64, fail_on: &[u64]) -> bool
     fail_on.contains(calls)
 }
 
-/// The bytes of the first entry of that name.
-fn first_entry<'a>(entries: &'a [(String, Vec<u8>)], name: &str) -> Option<&'a Vec<u8>>
-    ensures { option_map (λ v. v.now.items) result ≡ bytes_of (file_map entries.now) name.now }
+/// The first entry of that name.
+fn first_entry<'a>(entries: &'a [(String, Vec<u8>)], name: &str) -> Option<&'a (String, Vec<u8>)>
+    ensures { option_map (λ entry. entry.now.1.items) result ≡ bytes_of (file_map entries.now) name.now }
 {
-    for (entry, bytes) in entries {
-        if entry.as_str() == name {
-            return Some(bytes);
-        }
-    }
-    None
+    entries.iter().find(|entry| entry.0.as_str() == name)
 }
 
 impl Files for MemFiles {
@@ -109,7 +104,7 @@ impl Files for MemFiles {
         }
         match first_entry(&self.entries, name) {
             None => Err(FileEnd::Missing),
-            Some(bytes) => {
+            Some((_, bytes)) => {
                 let most = bytes.len().min(limit as usize + 1);
                 Vec::from_slice(alloc, &bytes[..most]).map_err(|_| FileEnd::NoMemory)
             }
