@@ -1,5 +1,5 @@
 -- The devices in memory: which of their calls fail.
-use Rattle.std.specs.Prelude.{ℕ, ◌≡◌, ◌==◌, Bool, List, String, Vec, map, string_bytes}
+use Rattle.std.specs.Prelude.{ℕ, ◌==◌, Bool, List, String, Vec, map, string_bytes}
 use Rattle.std.specs.declared.alloc.Global.{Global}
 use Rattle.std.specs.List.{list_any}
 use Rattle.kt_edge.specs.Count.{one_more}
