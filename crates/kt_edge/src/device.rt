@@ -1,4 +1,5 @@
-//! What files, sources and sinks promise. What they tell is optional: `None` where nobody knows their bytes.
+//! What files, sources and sinks promise. What they tell of their bytes is optional: it is `None`
+//! where nobody knows them.
 
 ghost use Rattle.std.specs.Prelude.{◌≡◌, ℕ, ◌+◌, ◌<◌, ◌≤◌, List, Option, length, IfOk, IsErrOf, vec_len};
 ghost use Rattle.std.specs.Io.{ReadsAtMost, WritesAtMost};
@@ -20,13 +21,16 @@ pub trait Files {
     /// The first `limit + 1` bytes of the file of that name, or all where it has fewer.
     fn read(&mut self, alloc: Global, name: &str, limit: u32) -> Result<Vec<u8>, FileEnd>
         ensures same { told self.new ≡ told self.old }
-        ensures start { IfOk result (λ v. StartsFile (told self.old) name.now (limit + 1) v.items) }
+        ensures start { IfOk result
+            (λ v. StartsFile (told self.old) name.now (limit + 1) v.items) }
         ensures bound { IfOk result (λ v. vec_len v ≤ limit + 1) }
 
         ensures later { faults self.old ≤ faults self.new }
-        ensures failed { IsErrOf result FileEnd.Failed → Rose (faults self.old) (faults self.new) }
+        ensures failed { IsErrOf result FileEnd.Failed
+            → Rose (faults self.old) (faults self.new) }
         ensures missing { IsErrOf result FileEnd.Missing → Lacks (told self.old) name.now }
-        ensures missing_is_no_fault { IsErrOf result FileEnd.Missing → faults self.new ≡ faults self.old };
+        ensures missing_is_no_fault { IsErrOf result FileEnd.Missing
+            → faults self.new ≡ faults self.old };
 }
 
 /// Bytes that are read once, in order.
@@ -37,8 +41,8 @@ pub trait Source {
     /// How often a read failed, up to the last value of 64 bits.
     ghost faults: { Self → ℕ };
 
-    /// Reads the next bytes into the front of `buf`, and says how many: none only at the end of the source or into an
-    /// empty `buf`. A read that fails has read nothing.
+    /// Reads the next bytes into the front of `buf`, and says how many: none only at the end of the
+    /// source or into an empty `buf`. A read that fails has read nothing.
     fn read(&mut self, buf: &mut [u8]) -> Result<usize, Failed>
         ensures bound { ReadsAtMost result buf.new }
         ensures bytes { ReadConsumes (left self.old) (left self.new) result buf.new }
@@ -53,8 +57,8 @@ pub trait Sink {
     /// How often a write failed, up to the last value of 64 bits.
     ghost faults: { Self → ℕ };
 
-    /// Takes bytes from the front of `bytes`, and says how many: at least one of a piece that isn't empty. A write that
-    /// fails has taken nothing.
+    /// Takes bytes from the front of `bytes`, and says how many: at least one of a piece that isn't
+    /// empty. A write that fails has taken nothing.
     fn write(&mut self, bytes: &[u8]) -> Result<usize, Failed>
         ensures bound { WritesAtMost result bytes.now }
         ensures some { IfOk result (λ n. 0 < length bytes.now → 0 < n) }

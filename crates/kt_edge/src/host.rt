@@ -1,4 +1,5 @@
-//! The host's files and streams. Nobody knows their bytes, so they tell nothing. Each counts its faults.
+//! The host's files and streams. Nobody knows their bytes, so they tell nothing. Each counts its
+//! faults.
 
 ghost use Rattle.std.specs.Prelude.{◌≡◌, ◌+◌, ◌<◌, ◌≤◌, None, IfOk, IsErrOf, is_err, vec_len};
 ghost use Rattle.std.specs.Io.{ReadsAtMost, WritesAtMost};

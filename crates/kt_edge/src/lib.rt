@@ -1,6 +1,7 @@
-//! The outside: files by name, a source that is read and a sink that is written, each with what it tells of its
-//! bytes and a count of its faults. They are kept in memory, for tests and proofs, or adapt the host's files and
-//! streams. Above them stand the two loops that programs use, `read_all` and `write_whole`.
+//! The outside: files by name, a source that is read and a sink that is written, each with what it
+//! tells of its bytes and a count of its faults. They are kept in memory, for tests and proofs, or
+//! adapt the host's files and streams. Above them stand the two loops that programs use, `read_all`
+//! and `write_whole`.
 #![tactic(auto)]
 
 mod device;

@@ -10,8 +10,8 @@ use std::alloc::Global;
 
 const BUFFER: usize = 4096;
 
-/// The next `most` bytes of the source, or all that are left where there are fewer. An error may come after some bytes
-/// were read.
+/// The next `most` bytes of the source, or all that are left where there are fewer. An error may
+/// come after some bytes were read.
 pub(crate) fn read_start<S: Source>(
     alloc: Global,
     source: &mut S,
@@ -23,7 +23,8 @@ pub(crate) fn read_start<S: Source>(
 
     ensures front { (bytes : List ℕ) × Consumes (S.left source.old) (S.left source.new) bytes }
     ensures later { S.faults source.old ≤ S.faults source.new }
-    ensures failed { IsErrOf result ReadEnd.Failed → Rose (S.faults source.old) (S.faults source.new) }
+    ensures failed { IsErrOf result ReadEnd.Failed
+        → Rose (S.faults source.old) (S.faults source.new) }
     ensures never_too_long { IsErrOf result ReadEnd.TooLong → ⊥ }
 {
     let mut buffer = [0; BUFFER];
@@ -42,19 +43,23 @@ pub(crate) fn read_start<S: Source>(
     Ok(bytes)
 }
 
-/// The rest of the source, of at most `limit` bytes: `TooLong` where it is longer. Each turn reads a byte or more, so
-/// there are at most `limit + 1` of them and one at the end. After an error a front of the rest is gone.
+/// The rest of the source, of at most `limit` bytes: `TooLong` where it is longer. Each turn reads a
+/// byte or more, so there are at most `limit + 1` of them and one at the end. After an error a front
+/// of the rest is gone.
 pub fn read_all<S: Source>(alloc: Global, source: &mut S, limit: u32) -> Result<Vec<u8>, ReadEnd>
     ensures whole { IfOk result (λ v. IfSome (S.left source.old) (λ rest. v.items ≡ rest)) }
     ensures end { OnOk result (IsAtEnd (S.left source.new)) }
     ensures within { IfOk result (λ v. vec_len v ≤ limit) }
 
     // `TooLong` comes only where more than `limit` bytes are left, and there no Ok comes.
-    ensures too_long { IsErrOf result ReadEnd.TooLong → IfSome (S.left source.old) (λ rest. limit < length rest) }
-    ensures refused { IsSomeAnd (S.left source.old) (λ rest. limit < length rest) → IsErr result }
+    ensures too_long { IsErrOf result ReadEnd.TooLong
+        → IfSome (S.left source.old) (λ rest. limit < length rest) }
+    ensures refused { IsSomeAnd (S.left source.old) (λ rest. limit < length rest)
+        → IsErr result }
 
     ensures later { S.faults source.old ≤ S.faults source.new }
-    ensures failed { IsErrOf result ReadEnd.Failed → Rose (S.faults source.old) (S.faults source.new) }
+    ensures failed { IsErrOf result ReadEnd.Failed
+        → Rose (S.faults source.old) (S.faults source.new) }
     ensures front { (bytes : List ℕ) × Consumes (S.left source.old) (S.left source.new) bytes }
 {
     let bytes = read_start(alloc, source, limit as usize + 1)?;
@@ -64,8 +69,8 @@ pub fn read_all<S: Source>(alloc: Global, source: &mut S, limit: u32) -> Result<
     Ok(bytes)
 }
 
-/// Writes all of the bytes, in order. Each call of the sink is given all bytes that are left, and a failing call is the
-/// last. It takes no memory.
+/// Writes all of the bytes, in order. Each call of the sink is given all bytes that are left, and a
+/// failing call is the last. It takes no memory.
 pub fn write_whole<K: Sink>(sink: &mut K, bytes: &[u8]) -> Result<(), Failed>
     ensures whole { OnOk result (Appends (K.taken sink.old) (K.taken sink.new) bytes.now) }
     ensures part { OnErr result (AppendsPart (K.taken sink.old) (K.taken sink.new) bytes.now) }
