@@ -1,3 +1,4 @@
 pub mod Machine
+pub mod MachineSettling
 pub mod Code
 pub mod Heads

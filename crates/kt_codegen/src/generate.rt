@@ -63,7 +63,8 @@ fn emit_statement(code: &mut Code, stmt: &Stmt) -> Result<(), AllocError>
             emit_block(code, body.as_slice())?;
             code.set(jump, Instr::Skip(offset(jump, code.len())?));
             emit_expr(code, test)?;
-            code.push(Instr::TickBack(offset(jump, code.len())?))
+            code.push(Instr::TickBack(offset(jump, code.len())?))?;
+            Ok(())
         }
     }
 }
