@@ -1,6 +1,6 @@
 -- What heads tell of threads that do the same acts.
-use Rattle.std.specs.Prelude.{◌≡◌, ℕ, suc, Some, refl}
-use Rattle.std.proofs.Common.{arith, sym, ap, ◌∙◌, subst}
+use Rattle.std.specs.Prelude.{◌≡◌, suc, Some}
+use Rattle.std.proofs.Common.{arith, sym, ap, subst}
 use Rattle.kt_meaning.specs.declared.acts.Reply.{Reply}
 use Rattle.kt_meaning.specs.Steps.{Step, Quiet, Acts, Traps, Ends, SameHead, AgreeFor, DoesSameActs}
 use Rattle.kt_codegen.specs.declared.run.Head.TheVariants.{Act, Trap, End}

@@ -1,6 +1,6 @@
 -- The laws of settling for threads of the machine.
 use Rattle.std.specs.Prelude.{◌≡◌, ℕ, ◌+◌, ◌-◌, ◌<◌, ◌≤◌, ℤ, List, length, Bool, true, false, if◌then◌else◌, Result, Ok, Err, Option, Some, None, slice_get}
-use Rattle.std.proofs.Common.{arith, subst, refl, sym, ap}
+use Rattle.std.proofs.Common.{arith, subst, refl}
 use Rattle.std.proofs.lemmas.Option.{slice_get_within}
 use Rattle.kt_meaning.specs.declared.acts.Act.{Act}
 use Rattle.kt_meaning.specs.declared.acts.Reply.{Reply}

@@ -8,6 +8,5 @@ pub mod instr;
 pub mod laws;
 mod operands;
 pub mod run;
-
 #[cfg(test)]
 mod tests;

@@ -51,13 +51,20 @@ fn reply_to(act: Act, global: &mut i32) -> Reply {
 }
 
 // `main { body }` comes to these heads.
-fn expect_heads(rt: &impl Abort, alloc: Global, body: Vec<Stmt>, n: i32, want: &[Head]) -> Result<(), AllocError> {
+fn expect_heads(
+    rt: &impl Abort,
+    alloc: Global,
+    body: Vec<Stmt>,
+    n: i32,
+    want: &[Head],
+) -> Result<(), AllocError> {
     let got = heads(alloc, body, n, 100)?;
     assert_eq!(rt; got.as_slice(), want);
     Ok(())
 }
 
 const LOAD: Head = Head::Act(Act::Load(0));
+
 const OVERFLOW: Head = Head::Trap(Trap::Overflow);
 
 #[test]
@@ -65,7 +72,13 @@ fn first_program(rt: HostRuntime) -> Result<(), Fail> {
     let alloc = rt.alloc();
     let put = Stmt::Put(Expr::Single(Operand::Character(b'A')));
     let body = vec![in alloc; put, Stmt::Return(number(0))]?;
-    expect_heads(&rt, alloc, body, 0, &[Head::Act(Act::Print(65)), Head::End(0)])?;
+    expect_heads(
+        &rt,
+        alloc,
+        body,
+        0,
+        &[Head::Act(Act::Print(65)), Head::End(0)],
+    )?;
     Ok(())
 }
 
@@ -103,9 +116,17 @@ fn arithmetic_of_int(rt: HostRuntime) -> Result<(), Fail> {
     let alloc = rt.alloc();
     let less_n = Expr::Binary(Operator::Subtract, Operand::Number(3), Operand::Global(0));
     let rows = [
-        (on_n(Operator::Add, 1), 2_147_483_646, Head::End(2_147_483_647)),
+        (
+            on_n(Operator::Add, 1),
+            2_147_483_646,
+            Head::End(2_147_483_647),
+        ),
         (on_n(Operator::Add, 1), 2_147_483_647, OVERFLOW),
-        (on_n(Operator::Subtract, 1), -2_147_483_647, Head::End(-2_147_483_648)),
+        (
+            on_n(Operator::Subtract, 1),
+            -2_147_483_647,
+            Head::End(-2_147_483_648),
+        ),
         (on_n(Operator::Subtract, 1), -2_147_483_648, OVERFLOW),
         (less_n, 5, Head::End(-2)),
         (on_n(Operator::Less, 3), 2, Head::End(1)),

@@ -1,6 +1,3 @@
-use Rattle.std.proofs.Common.{subst, sym, Some}
-use Rattle.kt_codegen.specs.Machine.{instr_step}
-use Rattle.kt_codegen.specs.Heads.{IsOneStep}
 use Rattle.kt_codegen.proofs.run.Thread.execute.Goals as goal
 
 pub returns-in-TickBack : goal.returns-in-TickBack
