@@ -9,12 +9,11 @@ use Rattle.kt_meaning.specs.declared.acts.Reply.{Reply}
 use Rattle.kt_meaning.specs.declared.acts.Trap.{Trap}
 use Rattle.kt_meaning.specs.declared.tree.Operand.{Operand}
 use Rattle.kt_meaning.specs.declared.tree.Operand.TheVariants.{Number, Character, Global}
-use Rattle.kt_meaning.specs.declared.tree.Operator.{Operator}
 use Rattle.kt_meaning.specs.declared.tree.Expr.{Expr}
 use Rattle.kt_meaning.specs.declared.tree.Expr.TheVariants.{Single, Binary}
 use Rattle.kt_meaning.specs.Tree.{Statement, Assigning, Putting, Returning, Choosing, Looping, Block, Empty, Then}
 use Rattle.kt_meaning.specs.Operators.{apply, is_zero}
-use Rattle.kt_meaning.specs.Steps.{Step, Quiet, Acts, Traps, Ends, AgreeFor, DoesSameActs}
+use Rattle.kt_meaning.specs.Steps.{Quiet, Acts, AgreeFor, DoesSameActs}
 use Rattle.kt_meaning.specs.Agreement.{agree-left, agree-right, agree-acts, agree-traps, agree-ends}
 use Rattle.kt_meaning.specs.Thread.{Work, Run, Do, Eval, Have, Right, Left, Assigns, Puts, Returns, Chooses, Loops, value_of, with_result, step, settle, entry}
 use Rattle.kt_meaning.specs.TreeSettling.{settle-quiet, settle-acts, settle-traps, settle-ends}
@@ -101,9 +100,9 @@ module _ (code : List Instr) where
   expr_agrees (Binary op a b) n w p vs h k =
       let at : p + length (expr_code (Binary op a b)) ≡ p + 1 + 1 + 1 = omega arith in
       tree_quiet n _ _ _ refl (operand_agrees a n (Right op b ∷ w) p vs h.0 (λ m le v.
-        tree_quiet m _ _ _ refl (operand_agrees b m (Left op v ∷ w) (p + 1) (v ∷ vs) h.1.0 (λ l le' u.
-          result_agrees (apply op v u) l _ w _ (p + 1 + 1) vs refl (there (p + 1 + 1) (u ∷ v ∷ vs) (Operate op) h.1.1.0) (λ i le'' z.
-            moved i _ _ _ _ at (k i (omega arith) z))))))
+      tree_quiet m _ _ _ refl (operand_agrees b m (Left op v ∷ w) (p + 1) (v ∷ vs) h.1.0 (λ l le' u.
+      result_agrees (apply op v u) l _ w _ (p + 1 + 1) vs refl (there (p + 1 + 1) (u ∷ v ∷ vs) (Operate op) h.1.1.0) (λ i le'' z.
+      moved i _ _ _ _ at (k i (omega arith) z))))))
 
   -- a choice, once its condition has a value
   chosen : (z : Bool) (n : ℕ) (b : Block) (w : Work) (x : Work) (s : State) (into past : ℕ) (vs : List ℤ) →
@@ -134,9 +133,9 @@ module _ (code : List Instr) where
       let at = (has_back code q (expr_code e) (tick ∷ []) h).0 in
       let home : p ≡ test - (length (block_code b) + length (expr_code e)) = omega arith in
       expr_agrees e n (Loops e b ∷ w) q vs (has_front code q (expr_code e) (tick ∷ []) h) (λ m le' v.
-        looped (is_zero v) m w (Run b ∷ Do (Looping e b) ∷ w) _ _ _ (test + 1) vs refl (there test (v ∷ vs) tick at) (moved m w _ _ vs o (k m (omega arith))) (λ i lt.
-          moved i _ _ _ vs home (body i (Do (Looping e b) ∷ w) (λ j le''.
-            tree_quiet j _ _ _ refl (moved j _ _ _ vs l (turns e b w p q vs out o l h body most j (omega arith) (λ u le3. k u (omega arith))))))))
+      looped (is_zero v) m w (Run b ∷ Do (Looping e b) ∷ w) _ _ _ (test + 1) vs refl (there test (v ∷ vs) tick at) (moved m w _ _ vs o (k m (omega arith))) (λ i lt.
+      moved i _ _ _ vs home (body i (Do (Looping e b) ∷ w) (λ j le''.
+      tree_quiet j _ _ _ refl (moved j _ _ _ vs l (turns e b w p q vs out o l h body most j (omega arith) (λ u le3. k u (omega arith))))))))
 
   -- an expression and one instruction that takes its value
   taken : (e : Expr) (i : Instr) (n : ℕ) (w : Work) (p : ℕ) (vs : List ℤ) → HasAt code p (expr_code e ++ i ∷ []) →
@@ -152,22 +151,22 @@ module _ (code : List Instr) where
         AgreeUpTo n w (p + length (statement_code s)) vs → Agree n (Do s ∷ w) p vs
     statement_agrees (Assigning g e) n w p vs h k =
         tree_quiet n _ _ _ refl (taken e (StoreGlobal g) n (Assigns g ∷ w) p vs h (λ m le v q end at.
-          both_act m _ _ _ _ _ refl (there q (v ∷ vs) (StoreGlobal g) at) (λ l lt r. moved l w _ _ vs (sym end) (k l (omega arith)))))
+        both_act m _ _ _ _ _ refl (there q (v ∷ vs) (StoreGlobal g) at) (λ l lt r. moved l w _ _ vs (sym end) (k l (omega arith)))))
     statement_agrees (Putting e) n w p vs h k =
         tree_quiet n _ _ _ refl (taken e PutByte n (Puts ∷ w) p vs h (λ m le v q end at.
-          both_act m _ _ _ _ _ refl (there q (v ∷ vs) PutByte at) (λ l lt r. moved l w _ _ vs (sym end) (k l (omega arith)))))
+        both_act m _ _ _ _ _ refl (there q (v ∷ vs) PutByte at) (λ l lt r. moved l w _ _ vs (sym end) (k l (omega arith)))))
     statement_agrees (Returning e) n w p vs h k =
         tree_quiet n _ _ _ refl (taken e ReturnTop n (Returns ∷ w) p vs h (λ m le v q end at.
-          agree-ends settle (machine_settle code) m _ _ v (settle-ends (Have v ∷ Returns ∷ w) v refl) (machine_settle-ends code (state_at q (v ∷ vs)) v (there q (v ∷ vs) ReturnTop at))))
+        agree-ends settle (machine_settle code) m _ _ v (settle-ends (Have v ∷ Returns ∷ w) v refl) (machine_settle-ends code (state_at q (v ∷ vs)) v (there q (v ∷ vs) ReturnTop at))))
     statement_agrees (Choosing e b) n w p vs h k =
         let q = p + length (expr_code e) in
         let skip = SkipIfZero (length (block_code b)) in
         let back = has_back code p (expr_code e) (skip ∷ block_code b) h in
         let end : p + length (choice_code (expr_code e) (block_code b)) ≡ q + 1 + length (block_code b) = omega (arith, length-append (expr_code e) (skip ∷ block_code b)) in
         tree_quiet n _ _ _ refl (expr_agrees e n (Chooses b ∷ w) p vs (has_front code p (expr_code e) (skip ∷ block_code b) h) (λ m le v.
-          chosen (is_zero v) m b w _ _ (q + 1) (q + 1 + length (block_code b)) vs refl (there q (v ∷ vs) skip back.0)
-            (moved m w _ _ vs end (k m le))
-            (block_agrees b m w (q + 1) vs back.1 (λ l le'. moved l w _ _ vs end (k l (omega arith))))))
+        chosen (is_zero v) m b w _ _ (q + 1) (q + 1 + length (block_code b)) vs refl (there q (v ∷ vs) skip back.0)
+        (moved m w _ _ vs end (k m le))
+        (block_agrees b m w (q + 1) vs back.1 (λ l le'. moved l w _ _ vs end (k l (omega arith))))))
     statement_agrees (Looping e b) n w p vs h k =
         let body = block_code b in
         let way = expr_code e ++ TickBack (length body + length (expr_code e)) ∷ [] in
@@ -175,8 +174,8 @@ module _ (code : List Instr) where
         let out = p + length (loop_code (expr_code e) body) in
         let end : out ≡ q + length (expr_code e) + 1 = omega (arith, length-append body way, length-append (expr_code e) (TickBack (length body + length (expr_code e)) ∷ [])) in
         tree_quiet n _ _ _ refl (code_quiet n _ _ _ (there p vs (Skip (length body)) h.0)
-          (turns e b w (p + 1) q vs out end refl (has_back code (p + 1) body way h.1)
-            (λ m u j. block_agrees b m u (p + 1) vs (has_front code (p + 1) body way h.1) j) n n (omega arith) k))
+        (turns e b w (p + 1) q vs out end refl (has_back code (p + 1) body way h.1)
+        (λ m u j. block_agrees b m u (p + 1) vs (has_front code (p + 1) body way h.1) j) n n (omega arith) k))
 
     block_agrees : (b : Block) (n : ℕ) (w : Work) (p : ℕ) (vs : List ℤ) → HasAt code p (block_code b) →
         AgreeUpTo n w (p + length (block_code b)) vs → Agree n (Run b ∷ w) p vs
@@ -186,7 +185,7 @@ module _ (code : List Instr) where
         let front = statement_code s in
         let end : p + length (front ++ block_code b) ≡ p + length front + length (block_code b) = omega (arith, length-append front (block_code b)) in
         tree_quiet n _ _ _ refl (statement_agrees s n (Run b ∷ w) p vs (has_front code p front (block_code b) h) (λ m le.
-          block_agrees b m w (p + length front) vs (has_back code p front (block_code b) h) (λ l le'. moved l w _ _ vs end (k l (omega arith)))))
+        block_agrees b m w (p + length front) vs (has_back code p front (block_code b) h) (λ l le'. moved l w _ _ vs end (k l (omega arith)))))
 
 -- the code of a block, run from its first instruction, does what the block does
 pub same_acts : (b : Block) → DoesSameActs settle (machine_settle (block_code b)) (entry b) start
@@ -194,5 +193,5 @@ same_acts b n =
     let code = block_code b in
     let past : slice_get code (0 + length code) ≡ None = slice_get_past code (0 + length code) (omega arith) in
     block_agrees code b n [] 0 [] (has_all code []) (λ m le.
-      agree-ends settle (machine_settle code) m [] (state_at (0 + length code) []) (pos 0) (settle-ends [] (pos 0) refl)
-        (machine_settle-ends code (state_at (0 + length code) []) (pos 0) (ap (λ o. instr_step o (0 + length code) []) past)))
+    agree-ends settle (machine_settle code) m [] (state_at (0 + length code) []) (pos 0) (settle-ends [] (pos 0) refl)
+    (machine_settle-ends code (state_at (0 + length code) []) (pos 0) (ap (λ o. instr_step o (0 + length code) []) past)))

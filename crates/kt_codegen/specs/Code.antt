@@ -1,5 +1,5 @@
 -- The instructions of a program.
-use Rattle.std.specs.Prelude.{ℕ, ◌+◌, pos, List, [], ◌∷◌, ◌++◌, length}
+use Rattle.std.specs.Prelude.{◌+◌, pos, List, [], ◌∷◌, ◌++◌, length}
 use Rattle.kt_meaning.specs.declared.tree.Operand.{Operand}
 use Rattle.kt_meaning.specs.declared.tree.Operand.TheVariants.{Number, Character, Global}
 use Rattle.kt_meaning.specs.declared.tree.Expr.{Expr}

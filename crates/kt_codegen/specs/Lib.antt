@@ -2,3 +2,4 @@ pub mod Machine
 pub mod MachineSettling
 pub mod Code
 pub mod Heads
+pub mod HeadLaws

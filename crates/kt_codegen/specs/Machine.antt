@@ -1,8 +1,6 @@
 -- The machine: the state of a private thread, and its steps, one equation an instruction.
-use Rattle.std.specs.Prelude.{ℕ, ◌+◌, ◌-◌, ℤ, pos, List, [], ◌∷◌, length, Option, Some, None, Bool, if◌then◌else◌, Result, Ok, Err, slice_get}
-use Rattle.kt_meaning.specs.declared.acts.Act.{Act}
+use Rattle.std.specs.Prelude.{ℕ, ◌+◌, ◌-◌, ℤ, pos, List, [], ◌∷◌, length, Option, Some, None, if◌then◌else◌, Result, Ok, Err, slice_get}
 use Rattle.kt_meaning.specs.declared.acts.Act.TheVariants.{Tick, Load, Store, Print}
-use Rattle.kt_meaning.specs.declared.acts.Reply.{Reply}
 use Rattle.kt_meaning.specs.declared.acts.Trap.{Trap}
 use Rattle.kt_meaning.specs.Operators.{apply, is_zero, byte_of}
 use Rattle.kt_meaning.specs.Steps.{Step, Quiet, Acts, Traps, Ends, settle_by}

@@ -1,13 +1,13 @@
 -- The laws of settling for threads of the machine.
-use Rattle.std.specs.Prelude.{◌≡◌, ℕ, ◌+◌, ◌-◌, ◌<◌, ℤ, List, length, Bool, true, false, if◌then◌else◌, Result, Ok, Err, Option, Some, None, slice_get}
-use Rattle.std.proofs.Common.{arith, subst, refl, sym, ap}
+use Rattle.std.specs.Prelude.{◌≡◌, ℕ, ◌+◌, ◌-◌, ◌<◌, ◌≤◌, ℤ, List, length, Bool, true, false, if◌then◌else◌, Result, Ok, Err, Option, Some, None, slice_get}
+use Rattle.std.proofs.Common.{arith, subst, refl}
 use Rattle.std.proofs.lemmas.Option.{slice_get_within}
 use Rattle.kt_meaning.specs.declared.acts.Act.{Act}
 use Rattle.kt_meaning.specs.declared.acts.Reply.{Reply}
 use Rattle.kt_meaning.specs.declared.acts.Trap.{Trap}
 use Rattle.kt_meaning.specs.Operators.{apply, is_zero}
-use Rattle.kt_meaning.specs.Steps.{Step, Quiet, Acts, Traps, Ends, IsLowering}
-use Rattle.kt_meaning.specs.Settling.{settle_by-quiet, settle_by-acts, settle_by-traps, settle_by-ends}
+use Rattle.kt_meaning.specs.Steps.{Step, Quiet, Acts, Traps, Ends, IsLowering, Settles}
+use Rattle.kt_meaning.specs.Settling.{settle_by-quiet, settle_by-acts, settle_by-traps, settle_by-ends, settle_within-settles}
 use Rattle.kt_codegen.specs.declared.instr.Instr.{Instr}
 use Rattle.kt_codegen.specs.declared.instr.Instr.TheVariants.{Push, LoadGlobal, StoreGlobal, PutByte, Operate, ReturnTop, Skip, SkipIfZero, TickBack}
 use Rattle.kt_codegen.specs.Machine.{State, state_at, topmost, without_top, result_step, instr_step, machine_step, room, machine_settle}
@@ -81,3 +81,10 @@ machine_settle-traps code x t e = settle_by-traps (machine_step code) (room code
 pub machine_settle-ends : (code : List Instr) (x : State) (v : ℤ) → machine_step code x ≡ Ends v → machine_settle code x ≡ Ends v
 unfolding machine_settle
 machine_settle-ends code x v e = settle_by-ends (machine_step code) (room code) x v e
+
+-- settling ends in one act, trap or end
+pub machine_settle-settles : (code : List Instr) (x : State) → Settles (machine_step code) x (machine_settle code x)
+unfolding machine_settle
+machine_settle-settles code x =
+    let here : room code x ≤ room code x = omega arith in
+    settle_within-settles (machine_step code) (room code) (machine_step-IsLowering code) (room code x) x here

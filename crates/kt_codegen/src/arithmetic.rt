@@ -8,7 +8,7 @@ use kt_meaning::acts::{Reply, Trap};
 use kt_meaning::tree::Operator;
 
 /// What an operator gives for its two operands, or its trap.
-pub fn apply(operator: Operator, left: i32, right: i32) -> Result<i32, Trap>
+pub(crate) fn apply(operator: Operator, left: i32, right: i32) -> Result<i32, Trap>
     ensures { result ≡ int.apply operator left right }
 {
     match operator {
@@ -20,21 +20,21 @@ pub fn apply(operator: Operator, left: i32, right: i32) -> Result<i32, Trap>
 }
 
 /// Whether a condition fails.
-pub fn is_zero(value: i32) -> bool
+pub(crate) fn is_zero(value: i32) -> bool
     ensures { result ≡ int.is_zero value }
 {
     value == 0
 }
 
 /// The byte that `putchar` writes.
-pub fn low_byte(value: i32) -> u8
+pub(crate) fn low_byte(value: i32) -> u8
     ensures { result ≡ int.byte_of value }
 {
     value.rem_euclid(256) as u8
 }
 
 /// The value that a reply gives.
-pub fn value_of(reply: Reply) -> i32
+pub(crate) fn value_of(reply: Reply) -> i32
     ensures { result ≡ thread.value_of reply }
 {
     match reply {

@@ -22,7 +22,7 @@ impl Model for Code {
 impl Code {
     ghost use Rattle.std.specs.Prelude.{◌≡◌, ◌<◌, ◌^◌, [], ◌∷◌, ◌++◌, length, slice_get, slice_set, OnOk, OnSome};
 
-    pub fn new(alloc: Global) -> Code
+    pub(crate) fn new(alloc: Global) -> Code
         ensures { result ≡ [] }
     {
         Code {
@@ -30,21 +30,21 @@ impl Code {
         }
     }
 
-    pub fn len(&self) -> usize
+    pub(crate) fn len(&self) -> usize
         ensures { result ≡ length self.now }
     {
         self.instrs.len()
     }
 
     /// The instruction at a place, counted from 0.
-    pub fn get(&self, place: usize) -> Option<Instr>
+    pub(crate) fn get(&self, place: usize) -> Option<Instr>
         ensures instr { result ≡ slice_get self.now place }
         ensures few { OnSome result (place < 2 ^ 63) }
     {
         self.instrs.get(place).copied()
     }
 
-    pub fn push(&mut self, instr: Instr) -> Result<(), AllocError>
+    pub(crate) fn push(&mut self, instr: Instr) -> Result<(), AllocError>
         ensures { OnOk result (self.new ≡ self.old ++ instr ∷ []) }
     {
         self.instrs.push(instr)?;
@@ -52,7 +52,7 @@ impl Code {
     }
 
     /// Puts another instruction at a place.
-    pub fn set(&mut self, place: usize, instr: Instr)
+    pub(crate) fn set(&mut self, place: usize, instr: Instr)
         requires { place < length self.old }
         ensures { self.new ≡ slice_set self.old place instr }
     {

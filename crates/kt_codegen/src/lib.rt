@@ -1,9 +1,12 @@
 //! From the tree of a program to instructions, and the machine that runs them.
 #![tactic(auto)]
 
-pub mod arithmetic;
+mod arithmetic;
 pub mod code;
 pub mod generate;
 pub mod instr;
-pub mod operands;
+pub mod laws;
+mod operands;
 pub mod run;
+#[cfg(test)]
+mod tests;

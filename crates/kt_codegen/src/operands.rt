@@ -5,7 +5,7 @@ use std::marker::Model;
 
 /// The values that instructions take and leave, seen as a list with the topmost value first.
 #[derive(Drop)]
-pub struct Operands {
+pub(crate) struct Operands {
     values: Vec<i32>,
 }
 
@@ -21,7 +21,7 @@ impl Operands {
     ghost use Rattle.std.specs.Prelude.{◌≡◌, [], ◌∷◌, OnOk};
     ghost use Rattle.kt_codegen.specs.Machine.{topmost, without_top};
 
-    pub fn new(alloc: Global) -> Operands
+    pub(crate) fn new(alloc: Global) -> Operands
         ensures { result ≡ [] }
     {
         Operands {
@@ -29,7 +29,7 @@ impl Operands {
         }
     }
 
-    pub fn push(&mut self, value: i32) -> Result<(), AllocError>
+    pub(crate) fn push(&mut self, value: i32) -> Result<(), AllocError>
         ensures { OnOk result (self.new ≡ value ∷ self.old) }
     {
         self.values.push(value)?;
@@ -37,14 +37,14 @@ impl Operands {
     }
 
     /// The topmost value; 0 where there is none.
-    pub fn top(&self) -> i32
+    pub(crate) fn top(&self) -> i32
         ensures { result ≡ topmost self.now }
     {
         self.values.as_slice().last().copied().unwrap_or(0)
     }
 
     /// The value below the topmost one; 0 where there is none.
-    pub fn second(&self) -> i32
+    pub(crate) fn second(&self) -> i32
         ensures { result ≡ topmost (without_top self.now) }
     {
         match self.values.as_slice() {
@@ -54,7 +54,7 @@ impl Operands {
     }
 
     /// Takes the topmost value away.
-    pub fn drop_top(&mut self)
+    pub(crate) fn drop_top(&mut self)
         ensures { self.new ≡ without_top self.old }
     {
         let _ = self.values.pop();

@@ -57,7 +57,7 @@ impl Thread {
         ensures stands { OnOk result (machine_step code.now self.new ≡ machine_settle code.now self.old) }
     {
         loop {
-            if let Some(head) = self.take_step(code)? {
+            if let Some(head) = self.step(code)? {
                 return Ok(head);
             }
         }
@@ -83,16 +83,16 @@ impl Thread {
     }
 
     // One quiet step, or what the thread has come to.
-    fn take_step(&mut self, code: &Code) -> Result<Option<Head>, AllocError>
+    fn step(&mut self, code: &Code) -> Result<Option<Head>, AllocError>
         ensures { IfOk result (IsOneStep (machine_step code.now self.old) self.old self.new) }
     {
         match code.get(self.place) {
             None => Ok(Some(Head::End(0))),
-            Some(instr) => self.take(instr),
+            Some(instr) => self.execute(instr),
         }
     }
 
-    fn take(&mut self, instr: Instr) -> Result<Option<Head>, AllocError>
+    fn execute(&mut self, instr: Instr) -> Result<Option<Head>, AllocError>
         requires { self.old.place < 2 ^ 63 }
         ensures { IfOk result (IsOneStep (instr_step (Some instr) self.old.place self.old.operands) self.old self.new) }
     {

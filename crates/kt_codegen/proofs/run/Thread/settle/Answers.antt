@@ -1,7 +1,7 @@
-use Rattle.std.proofs.Common.{◌≡◌, Some, sym, ap, ◌∙◌, subst}
+use Rattle.std.proofs.Common.{sym, ap, ◌∙◌}
 use Rattle.kt_codegen.specs.Machine.{machine_step}
 use Rattle.kt_codegen.specs.MachineSettling.{machine_step-IsLowering, machine_settle-quiet}
-use Rattle.kt_codegen.specs.Heads.{head_of, IsOneStep}
+use Rattle.kt_codegen.specs.Heads.{head_of}
 use Rattle.kt_codegen.proofs.Stands.{settles-here}
 use Rattle.kt_codegen.proofs.run.Thread.settle.Goals as goal
 

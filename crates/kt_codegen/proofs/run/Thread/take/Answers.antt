@@ -1,7 +1,0 @@
-use Rattle.std.proofs.Common.{subst, sym, Some}
-use Rattle.kt_codegen.specs.Machine.{instr_step}
-use Rattle.kt_codegen.specs.Heads.{IsOneStep}
-use Rattle.kt_codegen.proofs.run.Thread.take.Goals as goal
-
-pub returns-in-TickBack : goal.returns-in-TickBack
-returns-in-TickBack c = rw c.in-TickBack.is (c.leave_or_tick.ensures c.in-TickBack.field-0)
