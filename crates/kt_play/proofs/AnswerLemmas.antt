@@ -16,7 +16,7 @@ use Rattle.kt_play.specs.declared.status.Status.TheVariants.{Main, Trap, Budget,
 use Rattle.kt_play.specs.Answer.{Call, IsAnswer, IsRan, IsTurnedAway, IsRunOfWords, HasPlayed, HasFailed, IsUnread, IsRefusedFile, EndsOrLacksMemory}
 use Rattle.kt_play.specs.Form.{Source, IsProgramText}
 use Rattle.kt_play.specs.Order.{order_of}
-use Rattle.kt_play.specs.Unique.{IsProgramText-unique}
+use Rattle.kt_play.proofs.Programs.{one_source}
 use Rattle.kt_play.specs.Outcome.{FailsToWrite, IsRefused, LogsLine}
 use Rattle.kt_play.specs.Run.{IsRun, IsNamed, IsAccepted, IsOutsideForm, HasProgram, IsCause, IsCauseFor, IsWhole, IsPart, IsOutcome}
 use Rattle.kt_play.specs.Status.{end_of, refusal_line, status_of}
@@ -227,7 +227,7 @@ pub complete : (call : Call) (u l : Type 0) (s : Status) → IsAnswer call u l s
 complete call u l s (inl r) name bytes source e t text calm no_out no_log =
     let has = at_name call.words (HasProgram call.told r.source) name e r.accepted in
     let same = one_file call.told name bytes has.bytes t has.holds in
-    let one = IsProgramText-unique bytes r.source source (subst (λ (b : List ℕ). IsProgramText b r.source) same has.text) text in
+    let one = one_source bytes r.source source (subst (λ (b : List ℕ). IsProgramText b r.source) same has.text) text in
     ran-complete call u l s source no_out no_log (subst (λ (k : Source). IsOutcome s k call.out call.log u l) one r.outcome)
 complete call u l s (inr x) name bytes source e t text calm no_out no_log =
     inl (away-complete call l s x.why name bytes source e t text calm x.cause x.refused)

@@ -1,6 +1,15 @@
 mod ActLemmas
 mod AnswerLemmas
+mod Blocks
 mod FileLemmas
+mod Fronts
 mod JournalLemmas
+mod Names
 mod OutcomeLemmas
+mod Programs
+mod Rows
 mod RunLemmas
+mod Scans
+mod Sources
+mod Terms
+mod Trees

@@ -1,6 +1,6 @@
 -- Programs of the first form: globals of type `int`, and then `main`. What they spell, and what makes them well formed.
 use Rattle.std.specs.Prelude.{◌≡◌, ℕ, zero, suc, ◌+◌, ◌<◌, ◌≤◌, max, Bool, false, if◌then◌else◌, List, [], ◌∷◌, ◌++◌, length, codes, flat_map, slice_get, Option, Some, None, ℤ}
-use Rattle.std.specs.List.{list_any, position}
+use Rattle.std.specs.List.{list_any, position_from}
 use Rattle.std.specs.Str.{bytes_eq}
 use Rattle.kt_meaning.specs.declared.tree.Operand.{Operand}
 use Rattle.kt_meaning.specs.declared.tree.Operand.TheVariants as operand
@@ -15,7 +15,7 @@ use Rattle.kt_play.specs.declared.form.token.Sign.{Sign}
 use Rattle.kt_play.specs.declared.form.token.Sign.TheVariants.{OpenParenthesis, CloseParenthesis, OpenBrace, CloseBrace, Semicolon, Assign, Equal, Plus, Minus, Less}
 use Rattle.kt_play.specs.declared.form.token.Token.{Token}
 use Rattle.kt_play.specs.declared.form.token.Token.TheVariants.{Word, Number, Character, Mark}
-use Rattle.kt_play.specs.Pieces.{Piece, IsText, tokens_of}
+use Rattle.kt_play.specs.Pieces.{HasTokens}
 
 -- a program as plain data
 pub record Source : Type 0 where
@@ -113,7 +113,7 @@ is_reserved word = list_any (λ reserved. bytes_eq reserved word) reserved_words
 
 -- the global that a name stands for: the first of that name (6.2.1)
 unfoldable pub place_of : List Global → List ℕ → Option ℕ
-place_of globals word = position (λ g. bytes_eq g.name word) globals
+place_of globals word = position_from (λ g. bytes_eq g.name word) 0 globals
 
 -- no name is reserved, and none stands again later
 abbrev pub AreNamed : List Global → Type 0
@@ -162,11 +162,9 @@ pub record IsSource (s : Source) : Type 0 where
   pub declared : IsDeclared (length s.globals) s.body
   pub shallow : 1 + height s.body ≤ 50
 
--- the bytes are pieces whose tokens spell the program
+-- the bytes are at most 262,144, and their tokens spell the program
 pub record IsProgramText (bytes : List ℕ) (s : Source) : Type 0 where
   pub short : length bytes ≤ 262144
   pub source : IsSource s
-  pub pieces : List Piece
   pub with_void : Bool
-  pub text : IsText bytes pieces
-  pub tokens : tokens_of pieces ≡ source_tokens with_void s
+  pub tokens : HasTokens bytes (source_tokens with_void s)

@@ -1,12 +1,12 @@
 pub mod Answer
 pub mod Form
 pub mod Journal
+pub mod Machine
 pub mod Order
 pub mod Outcome
 pub mod Pieces
+pub mod Reading
+pub mod Report
 pub mod Run
 pub mod Status
 pub mod World
-pub mod Machine
-pub mod Report
-pub mod Unique

@@ -1,5 +1,5 @@
 -- The text of a program as pieces: blanks and tokens (ISO/IEC 9899:2011, 6.4).
-use Rattle.std.specs.Prelude.{◌≡◌, ℕ, ◌+◌, ◌-◌, ◌*◌, pos, Bool, true, false, ◌==◌, ◌||◌, ◌&&◌, not, nat_le, if◌then◌else◌, List, [], ◌∷◌, ◌++◌, flat_map, fold}
+use Rattle.std.specs.Prelude.{◌≡◌, ℕ, ◌+◌, ◌-◌, ◌*◌, pos, Bool, true, false, ◌==◌, ◌||◌, ◌&&◌, not, nat_le, if◌then◌else◌, List, [], ◌∷◌, ◌++◌, length, flat_map, fold}
 use Rattle.std.specs.List.{list_all}
 use Rattle.std.specs.Char.{is_ascii_alphabetic, is_ascii_digit}
 use Rattle.kt_play.specs.declared.form.token.Sign.{Sign}
@@ -39,11 +39,15 @@ is_word (b ∷ bs) = begins_word b && list_all is_word_byte bs
 abbrev pub decimal_value : List ℕ → ℕ
 decimal_value digits = fold (λ n d. 10 * n + (d - 48)) 0 digits
 
--- digits without a leading 0, unless it is 0 itself
+-- a 0 stands before another digit
+abbrev pub has_leading_zero : List ℕ → Bool
+has_leading_zero [] = false
+has_leading_zero (d ∷ []) = false
+has_leading_zero (d ∷ e ∷ ds) = d == 48
+
+-- one or more digits without a leading 0, unless it is 0 itself
 abbrev pub is_decimal : List ℕ → Bool
-is_decimal [] = false
-is_decimal (d ∷ []) = is_ascii_digit d
-is_decimal (d ∷ e ∷ ds) = is_ascii_digit d && not (d == 48) && list_all is_ascii_digit (e ∷ ds)
+is_decimal digits = not (length digits == 0) && list_all is_ascii_digit digits && not (has_leading_zero digits)
 
 -- what a character constant may stand for: a graphic byte or a space, but no quote and no backslash; or a newline
 abbrev pub is_character : ℕ → Bool
@@ -98,10 +102,14 @@ continues (Digits digits) b = is_word_byte b
 continues (Quoted c) b = false
 continues (Mark sign) b = sign_continues sign b
 
+-- the first byte passes the test, if there is one
+abbrev pub first_is : (ℕ → Bool) → List ℕ → Bool
+first_is test [] = false
+first_is test (b ∷ rest) = test b
+
 -- what follows the piece continues it
 abbrev pub goes_on : Piece → List ℕ → Bool
-goes_on p [] = false
-goes_on p (b ∷ rest) = continues p b
+goes_on p rest = first_is (continues p) rest
 
 abbrev pub text_of : List Piece → List ℕ
 text_of [] = []
@@ -127,3 +135,7 @@ token_of (Mark sign) = token.Mark sign ∷ []
 
 abbrev pub tokens_of : List Piece → List Token
 tokens_of pieces = flat_map token_of pieces
+
+-- the bytes are the text of pieces with these tokens
+abbrev pub HasTokens : List ℕ → List Token → Type 0
+HasTokens bytes tokens = (pieces : List Piece) × IsText bytes pieces × (tokens_of pieces ≡ tokens)

@@ -1,0 +1,9 @@
+use Rattle.std.proofs.Common.{length}
+use Rattle.kt_play.proofs.Sources.{IsDeclaredTo}
+use Rattle.kt_play.proofs.form.source.source.Given as goal
+
+abbrev pub invariant-loop-behind : goal.invariant-loop-behind
+invariant-loop-behind l = IsDeclaredTo l.tokens l.globals l.rest
+
+abbrev pub decreases-loop-behind : goal.decreases-loop-behind
+decreases-loop-behind l = length l.rest
