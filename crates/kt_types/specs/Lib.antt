@@ -1,1 +1,5 @@
+pub mod Inside
+pub mod Kept
+pub mod Layout
 pub mod PointNames
+pub mod Table

@@ -2,8 +2,12 @@
 //! the table of types with its layout, the scalar cells of each type.
 #![tactic(auto)]
 
+mod faults;
 mod kinds;
 mod lists;
+mod table;
 
+pub use faults::TypeFault;
 pub use kinds::{Field, FieldDecl, Ty, View};
+pub use table::{CELL_LIMIT, TypeTable};
 pub use lists::{Numbers, Points, Text, Turns};

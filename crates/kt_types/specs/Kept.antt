@@ -1,0 +1,51 @@
+-- What a table keeps beside its types, names and definitions, so that counts and offsets are looked up and not computed.
+use Rattle.std.specs.Prelude.{◌≡◌, ℕ, ◌*◌, ◌^◌, ◌<◌, ◌≤◌, List, [], ◌∷◌, length, map, slice_get, Option, None, Some}
+use Rattle.kt_types.specs.Layout.{layout, joined, repeated, cells_before, cell_limit}
+use Rattle.kt_types.specs.Table.{Table, Definition, fields_of, fields_by}
+use Rattle.kt_types.specs.declared.kinds.FieldDecl.{FieldDecl}
+use Rattle.kt_types.specs.declared.kinds.Ty.{Ty}
+use Rattle.kt_types.specs.declared.kinds.Ty.TheVariants.{Char, Int, Long, Mutex, Struct, Array, Ptr}
+use Rattle.kt_types.specs.declared.table.StructLayout.{StructLayout}
+
+-- what stands with the type at place p: n is how many cells it has, where it is no struct
+abbrev pub IsCounted : Table → ℕ → Ty → ℕ → Type 0
+IsCounted t p (Struct s) n = s < length t.structs
+IsCounted t p (Array e k) n = (cs : List Ty) × (e < p) × (layout t e ≡ Some cs) × (layout t p ≡ Some (repeated k cs)) × (n ≡ k * length cs) × (1 ≤ n) × (n ≤ cell_limit)
+IsCounted t p (Ptr q) n = (q < length t.types) × (n ≡ 1)
+IsCounted t p Char n = n ≡ 1
+IsCounted t p Int n = n ≡ 1
+IsCounted t p Long n = n ≡ 1
+IsCounted t p Mutex n = n ≡ 1
+
+-- what stands with a definition: each field's first cell, the names, and how many cells there are
+pub record IsLaidOut (t : Table) (d : StructLayout) : Type 0 where
+  pub known : fields_of t d.number ≡ Some d.fields.items
+  pub cells : (cs : List Ty) × (joined (layout t) d.fields.items ≡ Some cs) × (d.cells ≡ length cs)
+  pub some_cells : 1 ≤ d.cells
+  pub few_cells : d.cells ≤ cell_limit
+  pub starts : (n : ℕ) → n < length d.fields.items → slice_get d.starts.items n ≡ Some (cells_before t d.fields.items n)
+  pub starts_len : length d.starts.items ≡ length d.fields.items
+  pub names : map (λ name. name.items) d.names.keys ≡ map (λ f. f.name) d.fields.items
+
+-- what stands with the name of the struct of number s: the place of its definition
+abbrev pub IsNumbered : Table → List StructLayout → ℕ → Option ℕ → Type 0
+IsNumbered t defined s None = fields_of t s ≡ None
+IsNumbered t defined s (Some i) = (d : StructLayout) × (slice_get defined i ≡ Some d) × (d.number ≡ s)
+
+-- each struct is defined once
+abbrev pub IsDefinedOnce : List Definition → Type 0
+IsDefinedOnce [] = Unit {0}
+IsDefinedOnce (d ∷ earlier) = (fields_by earlier d.number ≡ None) × IsDefinedOnce earlier
+
+-- the definition that a layout stands for
+abbrev pub definition_of : StructLayout → Definition
+definition_of d = record { number = d.number; fields = d.fields.items }
+
+-- what a table keeps: its types with their counts, the place of each struct's definition, and the layouts, the latest last
+pub record IsKept (t : Table) (counts : List (Ty × ℕ)) (places : List (Option ℕ)) (defined : List StructLayout) : Type 0 where
+  pub few_types : length t.types < 2 ^ 32
+  pub few_structs : length t.structs < 2 ^ 32
+  pub counted : (p : ℕ) (c : Ty × ℕ) → slice_get counts p ≡ Some c → IsCounted t p c.0 c.1
+  pub numbered : (s : ℕ) (i : Option ℕ) → slice_get places s ≡ Some i → IsNumbered t defined s i
+  pub laid_out : (i : ℕ) (d : StructLayout) → slice_get defined i ≡ Some d → IsLaidOut t d
+  pub once : IsDefinedOnce t.defined
