@@ -1,6 +1,6 @@
 -- What a table keeps beside its types, names and definitions, so that counts and offsets are looked up and not computed.
 use Rattle.std.specs.Prelude.{◌≡◌, ℕ, ◌*◌, ◌^◌, ◌<◌, ◌≤◌, List, [], ◌∷◌, length, map, slice_get, Option, None, Some}
-use Rattle.kt_types.specs.Layout.{layout, joined, repeated, cells_before, cell_limit}
+use Rattle.kt_types.specs.Layout.{layout, joined, repeated, struct_cells, cells_before, cell_limit}
 use Rattle.kt_types.specs.Table.{Table, Definition, fields_of, fields_by}
 use Rattle.kt_types.specs.declared.kinds.FieldDecl.{FieldDecl}
 use Rattle.kt_types.specs.declared.kinds.Ty.{Ty}
@@ -20,7 +20,7 @@ IsCounted t p Mutex n = n ≡ 1
 -- what stands with a definition: each field's first cell, the names, and how many cells there are
 pub record IsLaidOut (t : Table) (d : StructLayout) : Type 0 where
   pub known : fields_of t d.number ≡ Some d.fields.items
-  pub cells : (cs : List Ty) × (joined (layout t) d.fields.items ≡ Some cs) × (d.cells ≡ length cs)
+  pub cells : (cs : List Ty) × (struct_cells t.types t.defined d.number ≡ Some cs) × (joined (layout t) d.fields.items ≡ Some cs) × (d.cells ≡ length cs)
   pub some_cells : 1 ≤ d.cells
   pub few_cells : d.cells ≤ cell_limit
   pub starts : (n : ℕ) → n < length d.fields.items → slice_get d.starts.items n ≡ Some (cells_before t d.fields.items n)
@@ -49,3 +49,4 @@ pub record IsKept (t : Table) (counts : List (Ty × ℕ)) (places : List (Option
   pub numbered : (s : ℕ) (i : Option ℕ) → slice_get places s ≡ Some i → IsNumbered t defined s i
   pub laid_out : (i : ℕ) (d : StructLayout) → slice_get defined i ≡ Some d → IsLaidOut t d
   pub once : IsDefinedOnce t.defined
+  pub declared : (s : ℕ) → length t.structs ≤ s → fields_of t s ≡ None

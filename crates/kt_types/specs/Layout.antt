@@ -1,5 +1,5 @@
 -- The layout of types: the scalar cells of each type, as a list (ISO/IEC 9899:2011, 6.2.5 and 6.7.2.1).
-use Rattle.std.specs.Prelude.{◌≡◌, ℕ, suc, zero, ◌*◌, ◌<◌, ◌≤◌, ◌==◌, List, [], ◌∷◌, ◌++◌, length, take, sum_by, slice_get, position, Option, None, Some, option_and_then, unwrap_or, if◌then◌else◌, IsSome}
+use Rattle.std.specs.Prelude.{◌≡◌, ℕ, suc, zero, ◌+◌, ◌*◌, ◌<◌, ◌≤◌, ◌==◌, List, [], ◌∷◌, ◌++◌, length, slice_get, position, Option, None, Some, option_and_then, unwrap_or, if◌then◌else◌, IsSome}
 use Rattle.std.specs.Cmp.Lexicographic.{pointwise}
 use Rattle.std.specs.Option.{option_map}
 use Rattle.kt_types.specs.Table.{Table, Definition, HasDistinctNames, fields_of}
@@ -55,7 +55,9 @@ cells t p = unwrap_or (layout t p) []
 
 -- how many cells stand before the n-th of these fields
 abbrev pub cells_before : Table → List FieldDecl → ℕ → ℕ
-cells_before t fields n = sum_by (λ f. length (cells t f.ty)) (take n fields)
+cells_before t fields zero = 0
+cells_before t [] (suc n) = 0
+cells_before t (f ∷ fs) (suc n) = length (cells t f.ty) + cells_before t fs n
 
 -- the n-th of these fields, as a look-up gives it
 abbrev pub field_found : Table → List FieldDecl → ℕ → Option Field
