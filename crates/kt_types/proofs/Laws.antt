@@ -6,15 +6,13 @@ use Rattle.std.proofs.lemmas.Option.{option_and_then_some, none-some, slice_get_
 use Rattle.kt_types.proofs.Growth.{Grows, IsFront, front-push, joined-grows, option_map_some, place-grows, struct-grows-types, struct-grows-defs, type-grows}
 use Rattle.kt_types.specs.Kept.{IsDefinedOnce}
 use Rattle.kt_types.specs.Layout.{repeated, joined, type_cells, place_cells, struct_cells, layout}
+use Rattle.kt_types.specs.Rank.{layout_by}
 use Rattle.kt_types.specs.Table.{Table, Definition, fields_by, fields_of, with_type}
 use Rattle.kt_types.specs.declared.kinds.FieldDecl.{FieldDecl}
 use Rattle.kt_types.specs.declared.kinds.Ty.{Ty}
 use Rattle.kt_types.specs.declared.kinds.Ty.TheVariants.{Char, Int, Long, Mutex, Struct, Array, Ptr}
 
--- the layouts by these definitions
-abbrev pub layout_by : List Ty → List Definition → ℕ → Option (List Ty)
-layout_by types defs = place_cells (struct_cells types defs) types (length types)
-
+-- a table's layouts are those by all its definitions
 pub layout-layout_by : (t : Table) (p : ℕ) → layout t p ≡ layout_by t.types t.defined p
 unfolding layout
 layout-layout_by t p = refl

@@ -4,19 +4,16 @@ use Rattle.std.proofs.lemmas.Bool.{eqb-true, cases_Bool, false_from_ne_true}
 use Rattle.std.proofs.lemmas.Option.{none-some, same_Some, slice_get_within}
 use Rattle.kt_types.proofs.Cells.{joined-complete}
 use Rattle.kt_types.proofs.Growth.{option_map_some}
-use Rattle.kt_types.proofs.Laws.{layout_by, place-cells, place-alone, struct-joined}
+use Rattle.kt_types.proofs.Laws.{place-cells, place-alone, struct-joined}
 use Rattle.kt_types.specs.Kept.{IsDefinedOnce}
 use Rattle.kt_types.specs.Layout.{repeated, joined, place_cells, struct_cells}
+use Rattle.kt_types.specs.Rank.{layout_by, rank}
 use Rattle.kt_types.specs.Table.{Definition, fields_by}
 use Rattle.kt_types.specs.declared.kinds.FieldDecl.{FieldDecl}
 use Rattle.kt_types.specs.declared.kinds.Ty.{Ty}
 use Rattle.kt_types.specs.declared.kinds.Ty.TheVariants.{Struct, Array}
 
--- how many definitions, from the first on, make the type at p complete
-abbrev pub rank : List Ty → List Definition → ℕ → ℕ
-rank types [] p = 0
-rank types (d ∷ earlier) p = if is_some (layout_by types earlier p) then rank types earlier p else suc (length earlier)
-
+-- no more definitions than there are
 pub rank-le : (types : List Ty) (defs : List Definition) (p : ℕ) → rank types defs p ≤ length defs
 rank-le types [] p = omega arith
 rank-le types (d ∷ earlier) p =

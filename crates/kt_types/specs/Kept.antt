@@ -1,6 +1,11 @@
 -- What a table keeps beside its types, names and definitions, so that counts and offsets are looked up and not computed.
-use Rattle.std.specs.Prelude.{◌≡◌, ℕ, ◌*◌, ◌^◌, ◌<◌, ◌≤◌, List, [], ◌∷◌, length, map, slice_get, Option, None, Some}
-use Rattle.kt_types.specs.Layout.{layout, joined, repeated, struct_cells, cells_before, cell_limit}
+use Rattle.std.specs.Prelude.{◌≡◌, ℕ, ◌*◌, ◌^◌, ◌<◌, ◌≤◌, ◌⊎◌, List, [], ◌∷◌, length, map, slice_get, Option, None, Some}
+use Rattle.std.specs.Global.{Vec}
+use Rattle.std.specs.declared.hash.BuildHasherDefault.{BuildHasherDefault}
+use Rattle.std.specs.declared.hash.FoldHasher.{FoldHasher}
+use Rattle.indexmap.specs.IndexSet.{IndexSet}
+use Rattle.kt_types.specs.Layout.{IsComplete, cells, layout, joined, repeated, struct_cells, cells_before, cell_limit}
+use Rattle.kt_types.specs.Rank.{rank}
 use Rattle.kt_types.specs.Table.{Table, Definition, fields_of, fields_by}
 use Rattle.kt_types.specs.declared.kinds.FieldDecl.{FieldDecl}
 use Rattle.kt_types.specs.declared.kinds.Ty.{Ty}
@@ -17,15 +22,23 @@ IsCounted t p Int n = n ≡ 1
 IsCounted t p Long n = n ≡ 1
 IsCounted t p Mutex n = n ≡ 1
 
+-- each field's first cell: how many cells stand before the field
+pub record AreStarts (t : Table) (fields : List FieldDecl) (starts : List ℕ) : Type 0 where
+  pub len : length starts ≡ length fields
+  pub each : (n : ℕ) → n < length fields → slice_get starts n ≡ Some (cells_before t fields n)
+
+-- the names, each as the list of its bytes, are those of the fields
+abbrev pub AreNames : List FieldDecl → IndexSet (Vec ℕ) (BuildHasherDefault FoldHasher) → Type 0
+AreNames fields names = map (λ name. name.items) names.keys ≡ map (λ f. f.name) fields
+
 -- what stands with a definition: each field's first cell, the names, and how many cells there are
 pub record IsLaidOut (t : Table) (d : StructLayout) : Type 0 where
   pub known : fields_of t d.number ≡ Some d.fields.items
   pub cells : (cs : List Ty) × (struct_cells t.types t.defined d.number ≡ Some cs) × (joined (layout t) d.fields.items ≡ Some cs) × (d.cells ≡ length cs)
   pub some_cells : 1 ≤ d.cells
   pub few_cells : d.cells ≤ cell_limit
-  pub starts : (n : ℕ) → n < length d.fields.items → slice_get d.starts.items n ≡ Some (cells_before t d.fields.items n)
-  pub starts_len : length d.starts.items ≡ length d.fields.items
-  pub names : map (λ name. name.items) d.names.keys ≡ map (λ f. f.name) d.fields.items
+  pub starts : AreStarts t d.fields.items d.starts.items
+  pub names : AreNames d.fields.items d.names
 
 -- what stands with the name of the struct of number s: the place of its definition
 abbrev pub IsNumbered : Table → List StructLayout → ℕ → Option ℕ → Type 0
@@ -50,3 +63,10 @@ pub record IsKept (t : Table) (counts : List (Ty × ℕ)) (places : List (Option
   pub laid_out : (i : ℕ) (d : StructLayout) → slice_get defined i ≡ Some d → IsLaidOut t d
   pub once : IsDefinedOnce t.defined
   pub declared : (s : ℕ) → length t.structs ≤ s → fields_of t s ≡ None
+
+-- the cell of the type at p is this cell of the type at q, a field of the struct at p or the element of the array at p
+pub record IsPart (t : Table) (p cell q within : ℕ) : Type 0 where
+  pub complete : IsComplete t q
+  pub within_it : within < length (cells t q)
+  pub same : slice_get (cells t q) within ≡ slice_get (cells t p) cell
+  pub falls : (rank t.types t.defined q < rank t.types t.defined p) ⊎ ((rank t.types t.defined q ≤ rank t.types t.defined p) × (q < p))

@@ -1,6 +1,8 @@
 //! The table of types.
-ghost use Rattle.std.specs.Prelude.{◌≡◌, ℕ, ◌+◌, ◌*◌, ◌^◌, ◌<◌, ◌≤◌, ◌↔◌, List, length, slice_get, option_and_then, option_copied, IsTrue, IsSome, IfSome, IfNone, IfOk, OnOk, OnErr, MatchOption, MatchResult, IfErr, Some, None};
-ghost use Rattle.kt_types.specs.Kept.{IsLaidOut};
+ghost use Rattle.std.specs.Prelude.{◌≡◌, ℕ, ◌+◌, ◌*◌, ◌^◌, ◌<◌, ◌≤◌, ◌↔◌, List, length, slice_get, option_and_then, IsTrue, IsSome, IfOk, OnOk, OnErr, MatchOption, IfErr, slice_index, Some, None};
+ghost use Rattle.std.specs.List.Sorted.{IsNonDecreasing};
+ghost use Rattle.std.specs.Bool.{MatchBool};
+ghost use Rattle.kt_types.specs.Kept.{AreNames, AreStarts, IsCounted, IsLaidOut, IsPart};
 ghost use Rattle.kt_types.specs.Layout.{cells, layout, joined, cell_limit, cells_before, field_named, CanDefine, IsComplete, IsFaulty, IsFitting, NamesPlaces};
 ghost use Rattle.kt_types.specs.Table.{Table, scalar_table, fields_of, with_type, with_struct, with_definition, HasDistinctNames, HasType, HasStruct};
 
@@ -80,7 +82,7 @@ impl TypeTable {
         if let Some(place) = self.types.get_index_of(&ty) {
             return Ok(place as u32);
         }
-        let cells = self.cells_kept(ty);
+        let cells = self.count_of(ty);
         let place = self.types.len() as u32;
         self.types.insert(ty, cells)?;
         Ok(place)
@@ -119,11 +121,15 @@ impl TypeTable {
             return Err(TypeFault::Twice);
         }
         let alloc = *self.defined.allocator();
-        let names = distinct_names(alloc, &fields)?;
-        if !fields.iter().all(|field| self.is_complete(field.ty)) {
+        let Some(names) = distinct_names(alloc, &fields)? else {
+            return Err(TypeFault::Twice);
+        };
+        if !self.are_complete(&fields) {
             return Err(TypeFault::Incomplete);
         }
-        let (starts, cells) = self.lay_out(alloc, &fields)?;
+        let Some((starts, cells)) = self.starts(alloc, &fields)? else {
+            return Err(TypeFault::TooBig);
+        };
         let place = self.defined.len();
         self.defined.push(StructLayout {
             number: s,
@@ -138,14 +144,24 @@ impl TypeTable {
         Ok(())
     }
 
-    /// Whether the type at the place is complete. It is no struct, or a struct that is defined.
+    /// The type at the place, if the table has such a place.
+    pub fn get(&self, ty: u32) -> Option<Ty>
+        ensures { result ≡ slice_get self.now.types ty }
+    {
+        match self.types.get_index(ty as usize) {
+            Some((kind, _)) => Some(*kind),
+            None => None,
+        }
+    }
+
+    /// Whether the type at the place is complete: it is no struct, or a struct that is defined.
     pub fn is_complete(&self, ty: u32) -> bool
-        requires { ty < length self.now.types }
         ensures { IsTrue result ↔ IsComplete self.now ty }
     {
-        match self.get(ty) {
-            Some(Ty::Struct(s)) => self.layout_of(s).is_some(),
-            _ => true,
+        match self.types.get_index(ty as usize) {
+            Some((Ty::Struct(s), _)) => self.layout_of(*s).is_some(),
+            Some(_) => true,
+            None => false,
         }
     }
 
@@ -174,26 +190,18 @@ impl TypeTable {
     {
         let mut place = ty;
         let mut cell = i;
-        loop {
-            match self.get(place) {
-                Some(Ty::Struct(s)) => {
-                    let (field_ty, start) = self.field_at_cell(s, cell);
-                    place = field_ty;
-                    cell -= start;
-                }
-                Some(Ty::Array(element, _)) => {
-                    place = element;
-                    cell %= self.cells_of(element);
-                }
-                Some(scalar) => return scalar,
-                None => unreachable!(),
-            }
+        'parts: while let Some((part, within)) = self.part_at(place, cell) {
+            place = part;
+            cell = within;
+        }
+        match self.get(place) {
+            Some(scalar) => scalar,
+            None => unreachable!(),
         }
     }
 
-    /// The field of this name of the struct, if it is defined and has one.
+    /// The field of this name of the struct, if the struct is defined and has one.
     pub fn field_at(&self, s: u32, name: &[u8]) -> Option<Field>
-        requires { s < length self.now.structs }
         ensures { result ≡ option_and_then (λ fields. field_named self.now fields name.now) (fields_of self.now s) }
     {
         let layout = self.layout_of(s)?;
@@ -207,19 +215,8 @@ impl TypeTable {
         })
     }
 
-    /// The type at the place.
-    pub fn get(&self, ty: u32) -> Option<Ty>
-        ensures { result ≡ slice_get self.now.types ty }
-    {
-        match self.types.get_index(ty as usize) {
-            Some((kind, _)) => Some(*kind),
-            None => None,
-        }
-    }
-
     // The layout of a struct, once it is defined.
     fn layout_of(&self, s: u32) -> Option<&StructLayout>
-        requires { s < length self.now.structs }
         ensures { MatchOption result (fields_of self.now s ≡ None) (λ d. IsLaidOut self.now d.now × (d.now.number ≡ s)) }
     {
         match self.structs.get_index(s as usize) {
@@ -228,36 +225,58 @@ impl TypeTable {
         }
     }
 
-    // How many cells the type has, to be kept with it: of a struct none are.
-    fn cells_kept(&self, ty: Ty) -> u32
+    // How many cells a new type has, to be kept with it: none where it is a struct.
+    fn count_of(&self, ty: Ty) -> u32
         requires places { NamesPlaces self.now ty }
         requires fits { IsFitting self.now ty }
+        ensures { IsCounted (with_type self.now ty) (length self.now.types) ty result }
     {
         match ty {
             Ty::Array(element, count) => count * self.cells_of(element),
             Ty::Struct(_) => 0,
-            _ => 1,
+            Ty::Char | Ty::Int | Ty::Long | Ty::Mutex | Ty::Ptr(_) => 1,
         }
     }
 
-    // The field that has the cell: its type and its first cell.
-    fn field_at_cell(&self, s: u32, cell: u32) -> (u32, u32)
+    // The field or element of the type that has the cell: its type, and the cell's place in it. A scalar has none.
+    fn part_at(&self, ty: u32, cell: u32) -> Option<(u32, u32)>
+        requires complete { IsComplete self.now ty }
+        requires within { cell < length (cells self.now ty) }
+        ensures { MatchOption result (slice_get (cells self.now ty) cell ≡ slice_get self.now.types ty) (λ part. IsPart self.now ty cell part.0 part.1) }
     {
-        match self.layout_of(s) {
-            Some(layout) => {
-                let next = layout.starts.partition_point(|start| *start <= cell);
-                (layout.fields[next - 1].ty, layout.starts[next - 1])
-            }
-            None => unreachable!(),
+        match self.types.get_index(ty as usize) {
+            Some((Ty::Struct(s), _)) => match self.layout_of(*s) {
+                Some(layout) => {
+                    let n = last_start(&layout.starts, cell);
+                    Some((layout.fields[n].ty, cell - layout.starts[n]))
+                }
+                None => unreachable!(),
+            },
+            Some((Ty::Array(element, _), _)) => Some((*element, cell % self.cells_of(*element))),
+            _ => None,
         }
     }
 
-    // Each field's first cell, and how many cells all have.
-    fn lay_out(
+    // Whether the types of all these fields are complete.
+    fn are_complete(&self, fields: &[FieldDecl]) -> bool
+        ensures { MatchBool result (IsSome (joined (layout self.now) fields.now)) (joined (layout self.now) fields.now ≡ None) }
+    {
+        for field in fields {
+            if !self.is_complete(field.ty) {
+                return false;
+            }
+        }
+        true
+    }
+
+    // Each field's first cell, and how many cells all have; nothing where there are more than the limit.
+    fn starts(
         &self,
         alloc: Global,
         fields: &[FieldDecl],
-    ) -> Result<(Vec<u32>, u32), TypeFault>
+    ) -> Result<Option<(Vec<u32>, u32)>, AllocError>
+        requires { IsSome (joined (layout self.now) fields.now) }
+        ensures { IfOk result (λ found. MatchOption found (cell_limit < cells_before self.now fields.now (length fields.now)) (λ r. AreStarts self.now fields.now r.0.items × (r.1 ≡ cells_before self.now fields.now (length fields.now)) × (r.1 ≤ cell_limit) × (length fields.now ≤ r.1))) }
     {
         let mut starts = Vec::new(alloc);
         let mut cells = 0;
@@ -265,23 +284,39 @@ impl TypeTable {
             starts.push(cells)?;
             cells += self.cells_of(field.ty);
             if cells > CELL_LIMIT {
-                return Err(TypeFault::TooBig);
+                return Ok(None);
             }
         }
-        Ok((starts, cells))
+        Ok(Some((starts, cells)))
     }
 }
 
-// The names of the fields, of which no two are the same.
-fn distinct_names(alloc: Global, fields: &[FieldDecl]) -> Result<IndexSet<Vec<u8>>, TypeFault>
+// The last of the starts that is not after the cell.
+fn last_start(starts: &[u32], cell: u32) -> usize
+    requires sorted { IsNonDecreasing starts.now }
+    requires some_start { 1 ≤ length starts.now }
+    requires from { slice_index starts.now 0 ≤ cell }
+    ensures within { result < length starts.now }
+    ensures from { slice_index starts.now result ≤ cell }
+    ensures to { result + 1 < length starts.now → cell < slice_index starts.now (result + 1) }
+{
+    starts.partition_point(|start| *start <= cell) - 1
+}
+
+// The names of the fields; nothing where two fields have one name.
+fn distinct_names(
+    alloc: Global,
+    fields: &[FieldDecl],
+) -> Result<Option<IndexSet<Vec<u8>>>, AllocError>
+    ensures { IfOk result (λ found. MatchOption found (¬ HasDistinctNames fields.now) (λ names. HasDistinctNames fields.now × AreNames fields.now names)) }
 {
     let mut names = IndexSet::new(alloc);
     for field in fields {
         let name = field.name.as_bytes().to_vec(alloc)?;
         let (_, is_new) = names.insert_full(name)?;
         if !is_new {
-            return Err(TypeFault::Twice);
+            return Ok(None);
         }
     }
-    Ok(names)
+    Ok(Some(names))
 }
