@@ -103,7 +103,7 @@ impl TypeTable {
         if number >= u32::MAX as usize {
             return Err(AllocError);
         }
-        let name = name.to_vec(*self.defined.allocator())?;
+        let name = Vec::from_slice(*self.defined.allocator(), name)?;
         self.structs.insert(name, None)?;
         Ok(number as u32)
     }
@@ -159,8 +159,10 @@ impl TypeTable {
         ensures { IsTrue result ↔ IsComplete self.now ty }
     {
         match self.types.get_index(ty as usize) {
-            Some((Ty::Struct(s), _)) => self.layout_of(*s).is_some(),
-            Some(_) => true,
+            Some((kind, _)) => match kind {
+                Ty::Struct(s) => self.layout_of(*s).is_some(),
+                Ty::Char | Ty::Int | Ty::Long | Ty::Mutex | Ty::Array(..) | Ty::Ptr(_) => true,
+            },
             None => false,
         }
     }
@@ -173,11 +175,13 @@ impl TypeTable {
         ensures within { result ≤ cell_limit }
     {
         match self.types.get_index(ty as usize) {
-            Some((Ty::Struct(s), _)) => match self.layout_of(*s) {
-                Some(layout) => layout.cells,
-                None => unreachable!(),
+            Some((kind, cells)) => match kind {
+                Ty::Struct(s) => match self.layout_of(*s) {
+                    Some(layout) => layout.cells,
+                    None => unreachable!(),
+                },
+                Ty::Char | Ty::Int | Ty::Long | Ty::Mutex | Ty::Array(..) | Ty::Ptr(_) => *cells,
             },
-            Some((_, cells)) => *cells,
             None => unreachable!(),
         }
     }
@@ -220,8 +224,11 @@ impl TypeTable {
         ensures { MatchOption result (fields_of self.now s ≡ None) (λ d. IsLaidOut self.now d.now × (d.now.number ≡ s)) }
     {
         match self.structs.get_index(s as usize) {
-            Some((_, Some(place))) => Some(&self.defined[*place]),
-            _ => None,
+            Some((_, place)) => match place {
+                Some(i) => Some(&self.defined[*i]),
+                None => None,
+            },
+            None => None,
         }
     }
 
@@ -245,15 +252,18 @@ impl TypeTable {
         ensures { MatchOption result (slice_get (cells self.now ty) cell ≡ slice_get self.now.types ty) (λ part. IsPart self.now ty cell part.0 part.1) }
     {
         match self.types.get_index(ty as usize) {
-            Some((Ty::Struct(s), _)) => match self.layout_of(*s) {
-                Some(layout) => {
-                    let n = last_start(&layout.starts, cell);
-                    Some((layout.fields[n].ty, cell - layout.starts[n]))
-                }
-                None => unreachable!(),
+            Some((kind, _)) => match kind {
+                Ty::Struct(s) => match self.layout_of(*s) {
+                    Some(layout) => {
+                        let n = last_start(&layout.starts, cell);
+                        Some((layout.fields[n].ty, cell - layout.starts[n]))
+                    }
+                    None => unreachable!(),
+                },
+                Ty::Array(element, _) => Some((*element, cell % self.cells_of(*element))),
+                Ty::Char | Ty::Int | Ty::Long | Ty::Mutex | Ty::Ptr(_) => None,
             },
-            Some((Ty::Array(element, _), _)) => Some((*element, cell % self.cells_of(*element))),
-            _ => None,
+            None => None,
         }
     }
 
@@ -312,7 +322,7 @@ fn distinct_names(
 {
     let mut names = IndexSet::new(alloc);
     for field in fields {
-        let name = field.name.as_bytes().to_vec(alloc)?;
+        let name = Vec::from_slice(alloc, field.name.as_bytes())?;
         let (_, is_new) = names.insert_full(name)?;
         if !is_new {
             return Ok(None);
