@@ -1,8 +1,10 @@
 pub mod Cells
+pub mod Complete
 pub mod Growth
 pub mod Keeps
 pub mod Laws
 pub mod Names
+pub mod Parts
 pub mod Ranks
 pub mod Starts
 pub mod Views
