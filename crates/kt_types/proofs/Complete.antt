@@ -92,3 +92,24 @@ joined-none at fs n f is none =
         let (cs, e) = value-of _ some in
         let (x, has) = joined-complete at fs cs e n f is in
         none-some x (sym none ∙ has))
+
+-- a type that is found to be no struct
+pub no-struct : (ty : Ty) → ((s : ℕ) → ty ≡ Struct s → ⊥) → IsNoStruct ty
+no-struct (Struct s) other = other s refl
+no-struct (Array e n) other = tt
+no-struct (Ptr p) other = tt
+no-struct Char other = tt
+no-struct Int other = tt
+no-struct Long other = tt
+no-struct Mutex other = tt
+
+-- a scalar type is its own cell
+pub scalar-cells : (t : Table) (p : ℕ) (ty : Ty) → ((s : ℕ) → ty ≡ Struct s → ⊥) → ((e n : ℕ) → ty ≡ Array e n → ⊥) → slice_get t.types p ≡ Some ty
+    → layout t p ≡ Some (ty ∷ [])
+scalar-cells t p (Struct s) no_struct no_array at = absurd (no_struct s refl)
+scalar-cells t p (Array e n) no_struct no_array at = absurd (no_array e n refl)
+scalar-cells t p (Ptr q) no_struct no_array at = layout-alone t p (Ptr q) _ at (λ _. refl)
+scalar-cells t p Char no_struct no_array at = layout-alone t p Char _ at (λ _. refl)
+scalar-cells t p Int no_struct no_array at = layout-alone t p Int _ at (λ _. refl)
+scalar-cells t p Long no_struct no_array at = layout-alone t p Long _ at (λ _. refl)
+scalar-cells t p Mutex no_struct no_array at = layout-alone t p Mutex _ at (λ _. refl)

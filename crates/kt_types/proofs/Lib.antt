@@ -1,5 +1,6 @@
 pub mod Cells
 pub mod Complete
+pub mod Counts
 pub mod Growth
 pub mod Keeps
 pub mod Laws

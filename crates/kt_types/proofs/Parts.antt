@@ -17,7 +17,7 @@ use Rattle.kt_types.specs.declared.kinds.Ty.{Ty}
 use Rattle.kt_types.specs.declared.kinds.Ty.TheVariants.{Struct, Array}
 use Rattle.kt_types.specs.declared.table.StructLayout.{StructLayout}
 
-cells-is : (t : Table) (p : ℕ) (cs : List Ty) → layout t p ≡ Some cs → cells t p ≡ cs
+pub cells-is : (t : Table) (p : ℕ) (cs : List Ty) → layout t p ≡ Some cs → cells t p ≡ cs
 cells-is t p cs has = rw has refl
 
 -- an element of an array

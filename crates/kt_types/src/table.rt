@@ -161,7 +161,7 @@ impl TypeTable {
         match self.types.get_index(ty as usize) {
             Some((kind, _)) => match kind {
                 Ty::Struct(s) => self.layout_of(*s).is_some(),
-                Ty::Char | Ty::Int | Ty::Long | Ty::Mutex | Ty::Array(..) | Ty::Ptr(_) => true,
+                _ => true,
             },
             None => false,
         }
@@ -180,7 +180,7 @@ impl TypeTable {
                     Some(layout) => layout.cells,
                     None => unreachable!(),
                 },
-                Ty::Char | Ty::Int | Ty::Long | Ty::Mutex | Ty::Array(..) | Ty::Ptr(_) => *cells,
+                _ => *cells,
             },
             None => unreachable!(),
         }
@@ -261,7 +261,7 @@ impl TypeTable {
                     None => unreachable!(),
                 },
                 Ty::Array(element, _) => Some((*element, cell % self.cells_of(*element))),
-                Ty::Char | Ty::Int | Ty::Long | Ty::Mutex | Ty::Ptr(_) => None,
+                _ => None,
             },
             None => None,
         }
