@@ -37,6 +37,7 @@ laid-extends t u x d h =
       cells = (h.cells.0, x.laid d.number h.cells.0 h.cells.1, joined-grows _ _ x.grows d.fields.items h.cells.0 h.cells.2, h.cells.3);
       some_cells = h.some_cells;
       few_cells = h.few_cells;
+      few_fields = h.few_fields;
       starts = record { len = h.starts.len; each = λ n lt. h.starts.each n lt ∙ ap Some (sym (same n)) };
       names = h.names;
     }

@@ -4,6 +4,7 @@ pub mod Counts
 pub mod Growth
 pub mod Keeps
 pub mod Laws
+pub mod Lookup
 pub mod Names
 pub mod Parts
 pub mod Ranks

@@ -37,6 +37,7 @@ pub record IsLaidOut (t : Table) (d : StructLayout) : Type 0 where
   pub cells : (cs : List Ty) × (struct_cells t.types t.defined d.number ≡ Some cs) × (joined (layout t) d.fields.items ≡ Some cs) × (d.cells ≡ length cs)
   pub some_cells : 1 ≤ d.cells
   pub few_cells : d.cells ≤ cell_limit
+  pub few_fields : length d.fields.items ≤ d.cells
   pub starts : AreStarts t d.fields.items d.starts.items
   pub names : AreNames d.fields.items d.names
 
