@@ -113,3 +113,7 @@ scalar-cells t p Char no_struct no_array at = layout-alone t p Char _ at (λ _. 
 scalar-cells t p Int no_struct no_array at = layout-alone t p Int _ at (λ _. refl)
 scalar-cells t p Long no_struct no_array at = layout-alone t p Long _ at (λ _. refl)
 scalar-cells t p Mutex no_struct no_array at = layout-alone t p Mutex _ at (λ _. refl)
+
+-- what is found to have no value is none
+pub is_none : {A : Type 0} (o : Option A) → false ≡ is_some o → o ≡ None
+is_none o e = none-of o (λ some. false≢true (e ∙ some))
