@@ -2,6 +2,7 @@ pub mod Added
 pub mod Cells
 pub mod Complete
 pub mod Counts
+pub mod Defined
 pub mod Growth
 pub mod Keeps
 pub mod Keyed

@@ -11,3 +11,6 @@ pub use faults::TypeFault;
 pub use kinds::{Field, FieldDecl, Ty, View};
 pub use table::{CELL_LIMIT, TypeTable};
 pub use lists::{Numbers, Points, Text, Turns};
+
+#[cfg(test)]
+mod tests;

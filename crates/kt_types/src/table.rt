@@ -2,6 +2,7 @@
 ghost use Rattle.std.specs.Prelude.{◌≡◌, ℕ, ◌+◌, ◌*◌, ◌^◌, ◌<◌, ◌≤◌, ◌↔◌, List, length, slice_get, option_and_then, IsTrue, IsSome, IfOk, OnOk, OnErr, MatchOption, IfErr, slice_index, Some, None};
 ghost use Rattle.std.specs.List.Sorted.{IsNonDecreasing};
 ghost use Rattle.std.specs.Bool.{MatchBool};
+ghost use Rattle.indexmap.specs.IndexMap.{index_map_len, set_value_at};
 ghost use Rattle.kt_types.specs.Kept.{AreNames, AreStarts, IsCounted, IsLaidOut, IsPart};
 ghost use Rattle.kt_types.specs.Layout.{cells, layout, joined, cell_limit, cells_before, field_named, CanDefine, IsComplete, IsFaulty, IsFitting, NamesPlaces};
 ghost use Rattle.kt_types.specs.Table.{Table, scalar_table, fields_of, with_type, with_struct, with_definition, HasDistinctNames, HasType, HasStruct};
@@ -138,9 +139,7 @@ impl TypeTable {
             starts,
             cells,
         })?;
-        if let Some(definition) = self.structs.get_index_mut(s as usize) {
-            *definition = Some(place);
-        }
+        note_place(&mut self.structs, s as usize, place);
         Ok(())
     }
 
@@ -298,6 +297,16 @@ impl TypeTable {
             }
         }
         Ok(Some((starts, cells)))
+    }
+}
+
+// Notes the place of a struct's definition.
+fn note_place(structs: &mut IndexMap<Vec<u8>, Option<usize>>, s: usize, place: usize)
+    requires { s < index_map_len structs.old }
+    ensures { structs.new.entries ≡ set_value_at structs.old.entries s (Some place) }
+{
+    if let Some(definition) = structs.get_index_mut(s) {
+        *definition = Some(place);
     }
 }
 
