@@ -24,7 +24,7 @@ module _ (a : Inside) (t : Table) (view : table_of a ≡ t) where
         → IsKept (record (table_of a) { types = keys_of entries }) entries (values a.structs) a.defined.items
     type-kept kept room counted =
         let new = keeps-type (table_of a) a.types.entries (values a.structs) a.defined.items kept (sym (length-keys_of a.types.entries))
-            (subst (λ u. length u.types < 4294967295) (sym view) room) ty n (subst (λ u. IsCounted (with_type u ty) (length u.types) ty n) (sym view) counted) in
+        (subst (λ u. length u.types < 4294967295) (sym view) room) ty n (subst (λ u. IsCounted (with_type u ty) (length u.types) ty n) (sym view) counted) in
         subst (λ ks. IsKept (record (table_of a) { types = ks }) entries (values a.structs) a.defined.items) (sym type-keys)
         (subst (λ es. IsKept (with_type (table_of a) ty) es (values a.structs) a.defined.items) (sym e) new)
 
@@ -33,9 +33,10 @@ module _ (a : Inside) (t : Table) (view : table_of a ≡ t) where
 
     pub type-only : ((q : ℕ) → slice_get (keys a.types) q ≡ Some ty → ⊥) → (q : ℕ) → slice_get (keys_of entries) q ≡ Some ty → q ≡ length a.types.entries
     type-only absent q at =
-        elim (slice_get-push (keys a.types) ty q ty (ap (λ ks. slice_get ks q) (sym type-keys) ∙ at))
-        [ inl before ↦ absurd (absent q before)
-        | inr last ↦ last.0 ∙ length-keys_of a.types.entries ]
+        elim (slice_get-push (keys a.types) ty q ty (ap (λ ks. slice_get ks q) (sym type-keys) ∙ at)) [
+          | inl before ↦ absurd (absent q before)
+          | inr last ↦ last.0 ∙ length-keys_of a.types.entries
+        ]
 
   module _ (name : List ℕ) (key : Vec ℕ) (is : key.items ≡ name) (entries : List (Vec ℕ × Option ℕ)) (e : entries ≡ a.structs.entries ++ (key, None) ∷ []) where
     struct-names : map (λ k. k.items) (keys_of entries) ≡ map (λ k. k.items) (keys a.structs) ++ name ∷ []
@@ -51,7 +52,7 @@ module _ (a : Inside) (t : Table) (view : table_of a ≡ t) where
     struct-kept kept room =
         let names_len : length (map (λ k. k.items) (keys a.structs)) ≡ length a.structs.entries = length-map (keys a.structs) (λ k. k.items) ∙ length-keys_of a.structs.entries in
         let new = keeps-struct (table_of a) a.types.entries (values a.structs) a.defined.items kept (length-values_of a.structs.entries ∙ sym names_len)
-            (omega (arith, names_len)) name in
+        (omega (arith, names_len)) name in
         let places : values_of entries ≡ values a.structs ++ None ∷ [] = ap values_of e ∙ map_push (λ c. c.1) a.structs.entries (key, None) in
         subst (λ ns. IsKept (record (table_of a) { structs = ns }) a.types.entries (values_of entries) a.defined.items) (sym struct-names)
         (subst (λ ps. IsKept (with_struct (table_of a) name) a.types.entries ps a.defined.items) (sym places) new)
@@ -65,6 +66,7 @@ module _ (a : Inside) (t : Table) (view : table_of a ≡ t) where
         → (q : ℕ) → slice_get (map (λ k. k.items) (keys_of entries)) q ≡ Some name → q ≡ length a.structs.entries
     struct-only absent q at =
         let names_len : length (map (λ k. k.items) (keys a.structs)) ≡ length a.structs.entries = length-map (keys a.structs) (λ k. k.items) ∙ length-keys_of a.structs.entries in
-        elim (slice_get-push (map (λ k. k.items) (keys a.structs)) name q name (ap (λ ns. slice_get ns q) (sym struct-names) ∙ at))
-        [ inl before ↦ absurd (absent q before)
-        | inr last ↦ last.0 ∙ names_len ]
+        elim (slice_get-push (map (λ k. k.items) (keys a.structs)) name q name (ap (λ ns. slice_get ns q) (sym struct-names) ∙ at)) [
+          | inl before ↦ absurd (absent q before)
+          | inr last ↦ last.0 ∙ names_len
+        ]

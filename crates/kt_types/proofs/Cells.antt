@@ -32,13 +32,14 @@ unfolding repeated
 slice_get-repeated zero xs i h = absurd (omega arith)
 slice_get-repeated (suc n) xs i h =
     let total : suc n * length xs ≡ n * length xs + length xs = suc-mul n (length xs) in
-    elim (cases_lt i (length xs))
-    [ inl front ↦ slice_get-append_left xs (repeated n xs) i front ∙ ap (slice_get xs) (sym (mod-eq_of_lt front))
-    | inr back ↦
-        let split : i ≡ length xs + (i - length xs) = omega arith in
-        ap (slice_get (xs ++ repeated n xs)) split ∙ slice_get-append_right xs (repeated n xs) (i - length xs)
-        ∙ slice_get-repeated n xs (i - length xs) (omega arith)
-        ∙ ap (slice_get xs) (sym (mod-eq-sub-mod back)) ]
+    elim (cases_lt i (length xs)) [
+      | inl front ↦ slice_get-append_left xs (repeated n xs) i front ∙ ap (slice_get xs) (sym (mod-eq_of_lt front))
+      | inr back ↦
+          let split : i ≡ length xs + (i - length xs) = omega arith in
+          ap (slice_get (xs ++ repeated n xs)) split ∙ slice_get-append_right xs (repeated n xs) (i - length xs)
+          ∙ slice_get-repeated n xs (i - length xs) (omega arith)
+          ∙ ap (slice_get xs) (sym (mod-eq-sub-mod back))
+    ]
 
 -- where the fields' cells are joined, each field is complete
 pub joined-complete : (at : ℕ → Option (List Ty)) (fs : List FieldDecl) (cs : List Ty) → joined at fs ≡ Some cs
@@ -48,8 +49,8 @@ joined-complete at (g ∷ fs) cs e zero f is =
     option_and_then_some _ (at g.ty) cs e (λ x has rest. (x, subst (λ (o : Option FieldDecl). option_and_then (λ h. at h.ty) o ≡ Some x) is has))
 joined-complete at (g ∷ fs) cs e (suc n) f is =
     option_and_then_some _ (at g.ty) cs e (λ x has rest.
-        let (y, more, same) = option_map_some (λ r. x ++ r) (joined at fs) cs rest in
-        joined-complete at fs y more n f is)
+    let (y, more, same) = option_map_some (λ r. x ++ r) (joined at fs) cs rest in
+    joined-complete at fs y more n f is)
 
 -- and the other way round
 pub joined-from : (at : ℕ → Option (List Ty)) (fs : List FieldDecl) → ((n : ℕ) (f : FieldDecl) → slice_get fs n ≡ Some f → (x : List Ty) × (at f.ty ≡ Some x))
@@ -68,28 +69,28 @@ module _ (t : Table) where
   joined-length [] cs e = sym (ap (λ (o : Option (List Ty)). length (unwrap_or o [])) e)
   joined-length (f ∷ fs) cs e =
       option_and_then_some _ (layout t f.ty) cs e (λ x has rest.
-          let (y, more, same) = option_map_some (λ r. x ++ r) (joined (layout t) fs) cs rest in
-          let tail = joined-length fs y more in
-          let head = cells-is f.ty x has in
-          ap length (sym same) ∙ length-append x y ∙ (rw (tail, head) refl))
+      let (y, more, same) = option_map_some (λ r. x ++ r) (joined (layout t) fs) cs rest in
+      let tail = joined-length fs y more in
+      let head = cells-is f.ty x has in
+      ap length (sym same) ∙ length-append x y ∙ (rw (tail, head) refl))
 
   pub joined-at : (fs : List FieldDecl) (cs : List Ty) → joined (layout t) fs ≡ Some cs → (n : ℕ) (f : FieldDecl) → slice_get fs n ≡ Some f
       → (i : ℕ) → i < length (cells t f.ty) → slice_get cs (cells_before t fs n + i) ≡ slice_get (cells t f.ty) i
   joined-at [] cs e n f is i lt = absurd (none-some f is)
   joined-at (g ∷ fs) cs e zero f is i lt =
       option_and_then_some _ (layout t g.ty) cs e (λ x has rest.
-          let (y, more, same) = option_map_some (λ r. x ++ r) (joined (layout t) fs) cs rest in
-          let first : cells t f.ty ≡ x = subst (λ (o : Option FieldDecl). unwrap_or (option_and_then (λ h. layout t h.ty) o) [] ≡ x) is (cells-is g.ty x has) in
-          let short : i < length x = subst (λ l. i < length l) first lt in
-          let none : 0 + i ≡ i = omega arith in
-          rw (← same, none, first) (slice_get-append_left x y i short))
+      let (y, more, same) = option_map_some (λ r. x ++ r) (joined (layout t) fs) cs rest in
+      let first : cells t f.ty ≡ x = subst (λ (o : Option FieldDecl). unwrap_or (option_and_then (λ h. layout t h.ty) o) [] ≡ x) is (cells-is g.ty x has) in
+      let short : i < length x = subst (λ l. i < length l) first lt in
+      let none : 0 + i ≡ i = omega arith in
+      rw (← same, none, first) (slice_get-append_left x y i short))
   joined-at (g ∷ fs) cs e (suc n) f is i lt =
       option_and_then_some _ (layout t g.ty) cs e (λ x has rest.
-          let (y, more, same) = option_map_some (λ r. x ++ r) (joined (layout t) fs) cs rest in
-          let first = cells-is g.ty x has in
-          let apart : length (cells t g.ty) + cells_before t fs n + i ≡ length x + (cells_before t fs n + i) = rw first (omega arith) in
-          ap (slice_get cs) apart ∙ ap (λ l. slice_get l (length x + (cells_before t fs n + i))) (sym same)
-          ∙ slice_get-append_right x y (cells_before t fs n + i) ∙ joined-at fs y more n f is i lt)
+      let (y, more, same) = option_map_some (λ r. x ++ r) (joined (layout t) fs) cs rest in
+      let first = cells-is g.ty x has in
+      let apart : length (cells t g.ty) + cells_before t fs n + i ≡ length x + (cells_before t fs n + i) = rw first (omega arith) in
+      ap (slice_get cs) apart ∙ ap (λ l. slice_get l (length x + (cells_before t fs n + i))) (sym same)
+      ∙ slice_get-append_right x y (cells_before t fs n + i) ∙ joined-at fs y more n f is i lt)
 
   before-suc : (fs : List FieldDecl) (n : ℕ) (f : FieldDecl) → slice_get fs n ≡ Some f → cells_before t fs (suc n) ≡ cells_before t fs n + length (cells t f.ty)
   before-suc [] n f is = absurd (none-some f is)
@@ -115,5 +116,5 @@ module _ (t : Table) where
   before-grows u grows [] cs e (suc n) = refl
   before-grows u grows (f ∷ fs) cs e (suc n) =
       option_and_then_some _ (layout t f.ty) cs e (λ x has rest.
-          let (y, more, same) = option_map_some (λ r. x ++ r) (joined (layout t) fs) cs rest in
-          rw (has, grows f.ty x has, before-grows u grows fs y more n) refl)
+      let (y, more, same) = option_map_some (λ r. x ++ r) (joined (layout t) fs) cs rest in
+      rw (has, grows f.ty x has, before-grows u grows fs y more n) refl)

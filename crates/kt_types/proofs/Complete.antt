@@ -63,11 +63,12 @@ counted-cells t p Mutex n simple at h = (Mutex ∷ [], layout-alone t p Mutex _ 
 -- a struct has the cells of its definition
 pub struct-layout : (t : Table) (p s : ℕ) (d : StructLayout) → slice_get t.types p ≡ Some (Struct s) → IsLaidOut t d → d.number ≡ s
     → (cs : List Ty) × (layout t p ≡ Some cs) × (joined (layout t) d.fields.items ≡ Some cs) × (d.cells ≡ length cs)
-struct-layout t p s d at laid is =
-    (laid.cells.0,
-      layout-alone t p (Struct s) _ at (λ _. refl) ∙ ap (struct_cells t.types t.defined) (sym is) ∙ laid.cells.1,
-      laid.cells.2,
-      laid.cells.3)
+struct-layout t p s d at laid is = (
+  laid.cells.0,
+  layout-alone t p (Struct s) _ at (λ _. refl) ∙ ap (struct_cells t.types t.defined) (sym is) ∙ laid.cells.1,
+  laid.cells.2,
+  laid.cells.3,
+)
 
 -- and is incomplete without one
 pub struct-undefined : (t : Table) (p s : ℕ) → slice_get t.types p ≡ Some (Struct s) → fields_of t s ≡ None → layout t p ≡ None
@@ -89,9 +90,9 @@ struct-complete t p s (Some d) at h =
 pub joined-none : (at : ℕ → Option (List Ty)) (fs : List FieldDecl) (n : ℕ) (f : FieldDecl) → slice_get fs n ≡ Some f → at f.ty ≡ None → joined at fs ≡ None
 joined-none at fs n f is none =
     none-of _ (λ some.
-        let (cs, e) = value-of _ some in
-        let (x, has) = joined-complete at fs cs e n f is in
-        none-some x (sym none ∙ has))
+    let (cs, e) = value-of _ some in
+    let (x, has) = joined-complete at fs cs e n f is in
+    none-some x (sym none ∙ has))
 
 -- a type that is found to be no struct
 pub no-struct : (ty : Ty) → ((s : ℕ) → ty ≡ Struct s → ⊥) → IsNoStruct ty

@@ -69,9 +69,9 @@ module _ (a : Inside) (t : Table) (view : table_of a ≡ t) (d : StructLayout) (
       → IsKept (record (table_of a) { structs = map (λ k. k.items) (keys_of entries); defined = reverse (map definition_of defs) }) a.types.entries (values_of entries) defs
   definition-kept kept within new laid =
       let now = keeps-definition (table_of a) a.types.entries (values a.structs) a.defined.items kept d
-          (subst (λ u. d.number < length u.structs) (sym view) within)
-          (subst (λ u. fields_of u d.number ≡ None) (sym view) new)
-          (subst (λ u. IsLaidOut (with_definition u d.number d.fields.items) d) (sym view) laid) in
+      (subst (λ u. d.number < length u.structs) (sym view) within)
+      (subst (λ u. fields_of u d.number ≡ None) (sym view) new)
+      (subst (λ u. IsLaidOut (with_definition u d.number d.fields.items) d) (sym view) laid) in
       let places : values_of entries ≡ set (values a.structs) d.number (Some (length a.defined.items)) = ap values_of noted ∙ values_of-set_value_at a.structs.entries d.number _ in
       subst (λ ns. IsKept (record (table_of a) { structs = ns; defined = reverse (map definition_of defs) }) a.types.entries (values_of entries) defs) (sym names-stay)
       (subst (λ ds. IsKept (record (table_of a) { defined = ds }) a.types.entries (values_of entries) defs) (sym latest)

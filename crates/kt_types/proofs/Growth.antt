@@ -40,8 +40,8 @@ pub joined-grows : (at at' : ℕ → Option (List Ty)) → Grows at at' → (fs 
 joined-grows at at' g [] cs e = e
 joined-grows at at' g (f ∷ fs) cs e =
     option_and_then_some _ (at f.ty) cs e (λ x is rest.
-        let (y, more, same) = option_map_some (λ r. x ++ r) (joined at fs) cs rest in
-        rw (g f.ty x is, joined-grows at at' g fs y more) (ap Some same))
+    let (y, more, same) = option_map_some (λ r. x ++ r) (joined at fs) cs rest in
+    rw (g f.ty x is, joined-grows at at' g fs y more) (ap Some same))
 
 pub place-grows : (by by' : ℕ → Option (List Ty)) (types more : List Ty) → Grows by by' → IsFront types more → (n m : ℕ) → n ≤ m
     → Grows (place_cells by types n) (place_cells by' more m)
@@ -50,7 +50,7 @@ place-grows by by' types more g front zero m le p cs e = absurd (none-some cs e)
 place-grows by by' types more g front (suc n) zero le p cs e = absurd (omega arith)
 place-grows by by' types more g front (suc n) (suc m) le p cs e =
     option_and_then_some _ (slice_get types p) cs e (λ ty is has.
-        rw (front p ty is) (type-grows by by' _ _ g (place-grows by by' types more g front n m (omega arith)) ty cs has))
+    rw (front p ty is) (type-grows by by' _ _ g (place-grows by by' types more g front n m (omega arith)) ty cs has))
 
 pub struct-grows-types : (types more : List Ty) → IsFront types more → length types ≤ length more → (defs : List Definition)
     → Grows (struct_cells types defs) (struct_cells more defs)
@@ -59,9 +59,10 @@ struct-grows-types types more front le [] s cs e = absurd (none-some cs e)
 struct-grows-types types more front le (d ∷ earlier) s cs e =
     let before = struct-grows-types types more front le earlier in
     elim (d.number == s) as (λ b. (if b then joined (place_cells (struct_cells types earlier) types (length types)) d.fields else struct_cells types earlier s) ≡ Some cs
-        → (if b then joined (place_cells (struct_cells more earlier) more (length more)) d.fields else struct_cells more earlier s) ≡ Some cs)
-    [ true ↦ λ h. joined-grows _ _ (place-grows _ _ types more before front (length types) (length more) le) d.fields cs h
-    | false ↦ λ h. before s cs h ] e
+    → (if b then joined (place_cells (struct_cells more earlier) more (length more)) d.fields else struct_cells more earlier s) ≡ Some cs) [
+      | true ↦ λ h. joined-grows _ _ (place-grows _ _ types more before front (length types) (length more) le) d.fields cs h
+      | false ↦ λ h. before s cs h
+    ] e
 
 -- a struct with cells is defined
 pub struct_cells-defined : (types : List Ty) (defs : List Definition) (s : ℕ) (cs : List Ty)
@@ -70,17 +71,19 @@ unfolding struct_cells
 struct_cells-defined types [] s cs e none = none-some cs e
 struct_cells-defined types (d ∷ earlier) s cs e none =
     elim (d.number == s) as (λ b. (if b then joined (place_cells (struct_cells types earlier) types (length types)) d.fields else struct_cells types earlier s) ≡ Some cs
-        → (if b then Some d.fields else fields_by earlier s) ≡ None → ⊥)
-    [ true ↦ λ _ h. none-some _ (sym h)
-    | false ↦ λ h g. struct_cells-defined types earlier s cs h g ] e none
+    → (if b then Some d.fields else fields_by earlier s) ≡ None → ⊥) [
+      | true ↦ λ _ h. none-some _ (sym h)
+      | false ↦ λ h g. struct_cells-defined types earlier s cs h g
+    ] e none
 
 pub struct-grows-defs : (types : List Ty) (d : Definition) (earlier : List Definition) → fields_by earlier d.number ≡ None
     → Grows (struct_cells types earlier) (struct_cells types (d ∷ earlier))
 unfolding struct_cells
 struct-grows-defs types d earlier new s cs e =
-    elim (cases_Bool (d.number == s))
-    [ inl same ↦ absurd (struct_cells-defined types earlier d.number cs (subst (λ k. struct_cells types earlier k ≡ Some cs) (sym (eqb-true d.number s same)) e) new)
-    | inr other ↦ rw other e ]
+    elim (cases_Bool (d.number == s)) [
+      | inl same ↦ absurd (struct_cells-defined types earlier d.number cs (subst (λ k. struct_cells types earlier k ≡ Some cs) (sym (eqb-true d.number s same)) e) new)
+      | inr other ↦ rw other e
+    ]
 
 -- the same of whole layouts
 pub front-push : (types : List Ty) (ty : Ty) → IsFront types (types ++ ty ∷ [])

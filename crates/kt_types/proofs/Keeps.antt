@@ -112,11 +112,12 @@ keeps-type t counts places defined kept even room ty n new =
     record {
       few_types = omega (arith, length-append t.types (ty ∷ []));
       few_structs = kept.few_structs;
-      counted = λ p c at. elim (slice_get-push counts (ty, n) p c at)
-        [ inl before ↦ counted-extends t (with_type t ty) x p c.0 c.1 (kept.counted p c before)
+      counted = λ p c at. elim (slice_get-push counts (ty, n) p c at) [
+        | inl before ↦ counted-extends t (with_type t ty) x p c.0 c.1 (kept.counted p c before)
         | inr last ↦
             let here : IsCounted (with_type t ty) p ty n = subst (λ q. IsCounted (with_type t ty) q ty n) (sym (last.0 ∙ even)) new in
-            subst (λ (d : Ty × ℕ). IsCounted (with_type t ty) p d.0 d.1) last.1 here ];
+            subst (λ (d : Ty × ℕ). IsCounted (with_type t ty) p d.0 d.1) last.1 here
+      ];
       numbered = kept.numbered;
       laid_out = λ i d at. laid-extends t (with_type t ty) x d (kept.laid_out i d at);
       once = kept.once;
@@ -133,9 +134,10 @@ keeps-struct t counts places defined kept even room name =
       few_types = kept.few_types;
       few_structs = omega (arith, longer);
       counted = λ p c at. counted-extends t (with_struct t name) x p c.0 c.1 (kept.counted p c at);
-      numbered = λ s i at. elim (slice_get-push places None s i at)
-        [ inl before ↦ kept.numbered s i before
-        | inr last ↦ subst (λ o. IsNumbered (with_struct t name) defined s o) last.1 (kept.declared s (omega arith)) ];
+      numbered = λ s i at. elim (slice_get-push places None s i at) [
+        | inl before ↦ kept.numbered s i before
+        | inr last ↦ subst (λ o. IsNumbered (with_struct t name) defined s o) last.1 (kept.declared s (omega arith))
+      ];
       laid_out = λ i d at. laid-extends t (with_struct t name) x d (kept.laid_out i d at);
       once = kept.once;
       declared = λ s le. kept.declared s (omega (arith, longer));
@@ -151,20 +153,22 @@ keeps-definition t counts places defined kept d within new laid =
       few_types = kept.few_types;
       few_structs = kept.few_structs;
       counted = λ p c at. counted-extends t u x p c.0 c.1 (kept.counted p c at);
-      numbered = λ s i at. elim (slice_get-set places d.number (Some (length defined)) s i at)
-        [ inl here ↦ subst (λ o. IsNumbered u (defined ++ d ∷ []) s o) here.1 (d, slice_get-at_push defined d, here.0)
-        | inr there ↦ numbered_still s i there.0 (kept.numbered s i there.1) ];
-      laid_out = λ i e at. elim (slice_get-push defined d i e at)
-        [ inl before ↦ laid-extends t u x e (kept.laid_out i e before)
-        | inr last ↦ subst (IsLaidOut u) last.1 laid ];
+      numbered = λ s i at. elim (slice_get-set places d.number (Some (length defined)) s i at) [
+        | inl here ↦ subst (λ o. IsNumbered u (defined ++ d ∷ []) s o) here.1 (d, slice_get-at_push defined d, here.0)
+        | inr there ↦ numbered_still s i there.0 (kept.numbered s i there.1)
+      ];
+      laid_out = λ i e at. elim (slice_get-push defined d i e at) [
+        | inl before ↦ laid-extends t u x e (kept.laid_out i e before)
+        | inr last ↦ subst (IsLaidOut u) last.1 laid
+      ];
       once = (new, kept.once);
       declared = λ s le. fields-other t d.number d.fields.items s (λ same. absurd (omega arith)) ∙ kept.declared s le;
     }
-    where
-      numbered_still : (s : ℕ) (i : Option ℕ) → d.number ≢ s → IsNumbered t defined s i
-          → IsNumbered (with_definition t d.number d.fields.items) (defined ++ d ∷ []) s i
-      numbered_still s None apart h = fields-other t d.number d.fields.items s apart ∙ h
-      numbered_still s (Some i) apart h = (h.0, slice_get-before_push defined d i h.0 h.1, h.2)
+  where
+    numbered_still : (s : ℕ) (i : Option ℕ) → d.number ≢ s → IsNumbered t defined s i
+        → IsNumbered (with_definition t d.number d.fields.items) (defined ++ d ∷ []) s i
+    numbered_still s None apart h = fields-other t d.number d.fields.items s apart ∙ h
+    numbered_still s (Some i) apart h = (h.0, slice_get-before_push defined d i h.0 h.1, h.2)
 
 -- the table of the scalar types
 pub keeps-scalars : IsKept scalar_table ((Char, 1) ∷ (Int, 1) ∷ (Long, 1) ∷ (Mutex, 1) ∷ []) [] []
@@ -178,10 +182,10 @@ keeps-scalars =
       once = tt;
       declared = λ s le. refl;
     }
-    where
-      one : (p : ℕ) (c : Ty × ℕ) → slice_get ((Char, 1) ∷ (Int, 1) ∷ (Long, 1) ∷ (Mutex, 1) ∷ []) p ≡ Some c → IsCounted scalar_table p c.0 c.1
-      one zero c at = subst (λ (d : Ty × ℕ). IsCounted scalar_table 0 d.0 d.1) (same_Some _ _ at) refl
-      one (suc zero) c at = subst (λ (d : Ty × ℕ). IsCounted scalar_table 1 d.0 d.1) (same_Some _ _ at) refl
-      one (suc (suc zero)) c at = subst (λ (d : Ty × ℕ). IsCounted scalar_table 2 d.0 d.1) (same_Some _ _ at) refl
-      one (suc (suc (suc zero))) c at = subst (λ (d : Ty × ℕ). IsCounted scalar_table 3 d.0 d.1) (same_Some _ _ at) refl
-      one (suc (suc (suc (suc p)))) c at = absurd (none-some c at)
+  where
+    one : (p : ℕ) (c : Ty × ℕ) → slice_get ((Char, 1) ∷ (Int, 1) ∷ (Long, 1) ∷ (Mutex, 1) ∷ []) p ≡ Some c → IsCounted scalar_table p c.0 c.1
+    one zero c at = subst (λ (d : Ty × ℕ). IsCounted scalar_table 0 d.0 d.1) (same_Some _ _ at) refl
+    one (suc zero) c at = subst (λ (d : Ty × ℕ). IsCounted scalar_table 1 d.0 d.1) (same_Some _ _ at) refl
+    one (suc (suc zero)) c at = subst (λ (d : Ty × ℕ). IsCounted scalar_table 2 d.0 d.1) (same_Some _ _ at) refl
+    one (suc (suc (suc zero))) c at = subst (λ (d : Ty × ℕ). IsCounted scalar_table 3 d.0 d.1) (same_Some _ _ at) refl
+    one (suc (suc (suc (suc p)))) c at = absurd (none-some c at)

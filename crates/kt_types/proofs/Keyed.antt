@@ -23,11 +23,13 @@ module _ {K A : Type 0} (name : K → A) (test : A → A → Bool) (same : (a b 
       let lt_j = slice_get_within keys j l there in
       let first : get_or keys i k ≡ k = get_or_from_slice_get keys i k k at in
       let second : get_or keys j k ≡ l = get_or_from_slice_get keys j l k there in
-      elim (cases_order i j)
-      [ inl equal ↦ equal
-      | inr apart ↦ elim apart
-          [ inl before ↦ absurd (false≢true (sym (apart_from_distinct _ keys i j k distinct before lt_j) ∙ tied _ _ (ap name first ∙ is ∙ sym (ap name second))))
-          | inr after ↦ absurd (false≢true (sym (apart_from_distinct _ keys j i k distinct after lt_i) ∙ tied _ _ (ap name second ∙ sym is ∙ sym (ap name first)))) ] ]
+      elim (cases_order i j) [
+        | inl equal ↦ equal
+        | inr apart ↦ elim apart [
+          | inl before ↦ absurd (false≢true (sym (apart_from_distinct _ keys i j k distinct before lt_j) ∙ tied _ _ (ap name first ∙ is ∙ sym (ap name second))))
+          | inr after ↦ absurd (false≢true (sym (apart_from_distinct _ keys j i k distinct after lt_i) ∙ tied _ _ (ap name second ∙ sym is ∙ sym (ap name first))))
+        ]
+      ]
 
   -- a name that a look-up does not find is none's
   pub key-absent : {X : Type 0} (es : List (K × X)) (a : A) → false ≡ is_some (lookup (λ k. test a (name k)) es) → (q : ℕ) (k : K) → slice_get (keys_of es) q ≡ Some k → name k ≡ a → ⊥

@@ -72,9 +72,10 @@ unfolding struct_cells
 struct-joined types [] once s cs e = absurd (none-some cs e)
 struct-joined types (d ∷ earlier) once s cs e =
     let grows : Grows (layout_by types earlier) (layout_by types (d ∷ earlier)) =
-        place-grows _ _ types types (struct-grows-defs types d earlier once.0) (λ p ty h. h) (length types) (length types) (omega arith) in
-    elim (cases_Bool (d.number == s))
-    [ inl same ↦ (d.fields, rw same refl, joined-grows _ _ grows d.fields cs (rw same at e))
-    | inr other ↦
-        let (fields, known, has) = struct-joined types earlier once.1 s cs (rw other at e) in
-        (fields, rw other known, joined-grows _ _ grows fields cs has) ]
+    place-grows _ _ types types (struct-grows-defs types d earlier once.0) (λ p ty h. h) (length types) (length types) (omega arith) in
+    elim (cases_Bool (d.number == s)) [
+      | inl same ↦ (d.fields, rw same refl, joined-grows _ _ grows d.fields cs (rw same at e))
+      | inr other ↦
+          let (fields, known, has) = struct-joined types earlier once.1 s cs (rw other at e) in
+          (fields, rw other known, joined-grows _ _ grows fields cs has)
+    ]

@@ -17,11 +17,12 @@ found-name (x ∷ keys) [] (suc k) name same any = absurd cc
 found-name (x ∷ keys) (f ∷ fields) (suc k) name same any =
     let first : x.items ≡ f.name = cc in
     let rest : map (λ x. x.items) keys ≡ map (λ f. f.name) (take k fields) = cc in
-    elim (cases_Bool (pointwise ◌==◌ name x.items))
-    [ inl here ↦ (0, f, omega arith, refl, sym first ∙ sym ((bytes_decides name x.items).0 here))
-    | inr there ↦
-        let (i, g, lt, at, is) = found-name keys fields k name rest (rw there at any) in
-        (suc i, g, omega arith, at, is) ]
+    elim (cases_Bool (pointwise ◌==◌ name x.items)) [
+      | inl here ↦ (0, f, omega arith, refl, sym first ∙ sym ((bytes_decides name x.items).0 here))
+      | inr there ↦
+          let (i, g, lt, at, is) = found-name keys fields k name rest (rw there at any) in
+          (suc i, g, omega arith, at, is)
+    ]
 
 -- the set lacks this name: none of them is it
 pub absent-name : (keys : List (Vec ℕ)) (fields : List FieldDecl) (k : ℕ) (name : List ℕ) → map (λ x. x.items) keys ≡ map (λ f. f.name) (take k fields)
@@ -34,10 +35,10 @@ absent-name (x ∷ keys) (g ∷ fields) (suc k) name same any i f lt at =
     let rest : map (λ x. x.items) keys ≡ map (λ f. f.name) (take k fields) = cc in
     let (here, others) = or_parts (pointwise ◌==◌ name x.items) _ any in
     by i lt at (absent-name keys fields k name rest others) (λ is. false≢true (sym here ∙ (bytes_decides name x.items).1 (sym (first ∙ is))))
-    where
-      by : (i : ℕ) → i < suc k → slice_get (g ∷ fields) i ≡ Some f → ((i : ℕ) (f : FieldDecl) → i < k → slice_get fields i ≡ Some f → f.name ≢ name) → g.name ≢ name → f.name ≢ name
-      by zero lt at later not_it is = not_it (subst (λ h. h.name ≡ name) (sym (same_Some _ _ at)) is)
-      by (suc i) lt at later not_it is = later i f (omega arith) at is
+  where
+    by : (i : ℕ) → i < suc k → slice_get (g ∷ fields) i ≡ Some f → ((i : ℕ) (f : FieldDecl) → i < k → slice_get fields i ≡ Some f → f.name ≢ name) → g.name ≢ name → f.name ≢ name
+    by zero lt at later not_it is = not_it (subst (λ h. h.name ≡ name) (sym (same_Some _ _ at)) is)
+    by (suc i) lt at later not_it is = later i f (omega arith) at is
 
 -- one more name
 pub names_more : (keys : List (Vec ℕ)) (added : Vec ℕ) (fields : List FieldDecl) (k : ℕ) (f : FieldDecl) → slice_get fields k ≡ Some f → added.items ≡ f.name

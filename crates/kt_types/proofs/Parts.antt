@@ -36,10 +36,10 @@ part-array t p e k n cell within at h lt is =
       same = ap (λ l. slice_get l within) element ∙ ap (slice_get h.0) its ∙ sym (slice_get-repeated k h.0 cell below) ∙ ap (λ l. slice_get l cell) (sym whole);
       falls = inr (rank-array t.types t.defined p e k at, h.1);
     }
-    where
-      positive : (m : ℕ) → n ≡ k * m → 0 < m
-      positive zero z = absurd (omega (arith, z, mul-zero k))
-      positive (suc m) z = omega arith
+  where
+    positive : (m : ℕ) → n ≡ k * m → 0 < m
+    positive zero z = absurd (omega (arith, z, mul-zero k))
+    positive (suc m) z = omega arith
 
 -- the starts of fields do not fall
 pub starts-sorted : (t : Table) (fields : List FieldDecl) (starts : List ℕ) → AreStarts t fields starts → IsNonDecreasing starts
@@ -53,10 +53,10 @@ pub starts-first : (t : Table) (d : StructLayout) → IsLaidOut t d → (1 ≤ l
 starts-first t d laid =
     let some : 1 ≤ length d.fields.items = positive d.fields.items (joined-length t d.fields.items laid.cells.0 laid.cells.2) in
     (omega (arith, laid.starts.len), get_or_from_slice_get d.starts.items 0 0 0 (laid.starts.each 0 some))
-    where
-      positive : (fields : List FieldDecl) → length laid.cells.0 ≡ cells_before t fields (length fields) → 1 ≤ length fields
-      positive [] e = absurd (omega (arith, e, laid.cells.3, laid.some_cells))
-      positive (f ∷ fs) e = omega arith
+  where
+    positive : (fields : List FieldDecl) → length laid.cells.0 ≡ cells_before t fields (length fields) → 1 ≤ length fields
+    positive [] e = absurd (omega (arith, e, laid.cells.3, laid.some_cells))
+    positive (f ∷ fs) e = omega arith
 
 -- the field of a struct that begins last, not after the cell
 pub part-field : (t : Table) → IsDefinedOnce t.defined → (p s : ℕ) (d : StructLayout) → slice_get t.types p ≡ Some (Struct s) → IsLaidOut t d → d.number ≡ s
@@ -67,16 +67,17 @@ part-field t once p s d at laid is n cell lt from to below f field =
     let whole : cells t p ≡ cs = cells-is t p cs has in
     let total = joined-length t d.fields.items cs joins in
     let start : get_or d.starts.items n 0 ≡ cells_before t d.fields.items n =
-        get_or_from_slice_get d.starts.items n _ 0 (laid.starts.each n (omega (arith, laid.starts.len))) in
+    get_or_from_slice_get d.starts.items n _ 0 (laid.starts.each n (omega (arith, laid.starts.len))) in
     let more = before_more t d.fields.items n f field in
     let short : cell < length cs = subst (λ l. cell < length l) whole below in
-    let next : cell < cells_before t d.fields.items (n + 1) = elim (cases_lt (n + 1) (length d.starts.items))
-        [ inl inner ↦
-            let there = get_or_from_slice_get d.starts.items (n + 1) _ 0 (laid.starts.each (n + 1) (omega (arith, laid.starts.len))) in
-            subst (λ m. cell < m) there (to inner)
-        | inr last ↦
-            let end : n + 1 ≡ length d.fields.items = omega (arith, laid.starts.len) in
-            subst (λ m. cell < m) (total ∙ ap (cells_before t d.fields.items) (sym end)) short ] in
+    let next : cell < cells_before t d.fields.items (n + 1) = elim (cases_lt (n + 1) (length d.starts.items)) [
+      | inl inner ↦
+          let there = get_or_from_slice_get d.starts.items (n + 1) _ 0 (laid.starts.each (n + 1) (omega (arith, laid.starts.len))) in
+          subst (λ m. cell < m) there (to inner)
+      | inr last ↦
+          let end : n + 1 ≡ length d.fields.items = omega (arith, laid.starts.len) in
+          subst (λ m. cell < m) (total ∙ ap (cells_before t d.fields.items) (sym end)) short
+    ] in
     let inside : cell - cells_before t d.fields.items n < length (cells t f.ty) = omega (arith, more, next, from, start) in
     let back : cells_before t d.fields.items n + (cell - cells_before t d.fields.items n) ≡ cell = omega (arith, from, start) in
     let its = joined-at t d.fields.items cs joins n f field (cell - cells_before t d.fields.items n) inside in

@@ -29,12 +29,12 @@ rank-earlier types d earlier p cs has = rw has refl
 pub rank-array : (types : List Ty) (defs : List Definition) (p e n : ℕ) → slice_get types p ≡ Some (Array e n) → rank types defs e ≤ rank types defs p
 rank-array types [] p e n is = omega arith
 rank-array types (d ∷ earlier) p e n is = cases (layout_by types earlier p) refl (rank-array types earlier p e n is)
-    where
-      cases : (o : Option (List Ty)) → layout_by types earlier p ≡ o → rank types earlier e ≤ rank types earlier p → rank types (d ∷ earlier) e ≤ rank types (d ∷ earlier) p
-      cases None has _ = rw has (rank-le types (d ∷ earlier) e)
-      cases (Some cs) has less =
-          let (es, element, same) = option_map_some (repeated n) _ cs (place-cells _ types (length types) p (Array e n) cs (omega arith) is has) in
-          rw (has, element) less
+  where
+    cases : (o : Option (List Ty)) → layout_by types earlier p ≡ o → rank types earlier e ≤ rank types earlier p → rank types (d ∷ earlier) e ≤ rank types (d ∷ earlier) p
+    cases None has _ = rw has (rank-le types (d ∷ earlier) e)
+    cases (Some cs) has less =
+        let (es, element, same) = option_map_some (repeated n) _ cs (place-cells _ types (length types) p (Array e n) cs (omega arith) is has) in
+        rw (has, element) less
 
 -- the place of a struct has the struct's cells
 struct_is : (types : List Ty) (defs : List Definition) (p s : ℕ) → slice_get types p ≡ Some (Struct s) → layout_by types defs p ≡ struct_cells types defs s
@@ -56,9 +56,10 @@ unfolding struct_cells
 joined_here types d earlier p s cs is none complete =
     let now : struct_cells types (d ∷ earlier) s ≡ Some cs = sym (struct_is types (d ∷ earlier) p s is) ∙ complete in
     let before : struct_cells types earlier s ≡ None = sym (struct_is types earlier p s is) ∙ none in
-    elim (cases_Bool (d.number == s))
-    [ inl same ↦ (same, rw same at now)
-    | inr other ↦ absurd (none-some cs (sym before ∙ (rw other at now))) ]
+    elim (cases_Bool (d.number == s)) [
+      | inl same ↦ (same, rw same at now)
+      | inr other ↦ absurd (none-some cs (sym before ∙ (rw other at now)))
+    ]
 
 -- a field of a complete struct is complete by fewer definitions
 pub rank-field : (types : List Ty) (defs : List Definition) → IsDefinedOnce defs → (p s : ℕ) → slice_get types p ≡ Some (Struct s)
@@ -67,20 +68,20 @@ pub rank-field : (types : List Ty) (defs : List Definition) → IsDefinedOnce de
 rank-field types [] once p s is fields known cs complete n f at = absurd (none-some fields known)
 rank-field types (d ∷ earlier) once p s is fields known cs complete n f at =
     cases (layout_by types earlier p) refl (λ before ds has. rank-field types earlier once.1 p s is fields before ds has n f at)
-    where
-      cases : (o : Option (List Ty)) → layout_by types earlier p ≡ o
-          → (fields_by earlier s ≡ Some fields → (ds : List Ty) → layout_by types earlier p ≡ Some ds → rank types earlier f.ty < rank types earlier p)
-          → rank types (d ∷ earlier) f.ty < rank types (d ∷ earlier) p
-      cases None has less =
-          let joins = joined_here types d earlier p s cs is has complete in
-          let its : d.fields ≡ fields = same_Some _ _ (rw joins.0 at known) in
-          let (x, field) = joined-complete _ d.fields cs joins.1 n f (rw its at) in
-          rw (has, field) (omega (arith, rank-le types earlier f.ty))
-      cases (Some ds) has less =
-          let before = sym (struct_is types earlier p s is) ∙ has in
-          let (fs, known_before, joins) = struct-joined types earlier once.1 s ds before in
-          let other = defined_apart d earlier s fs once.0 known_before in
-          let same_known : fields_by earlier s ≡ Some fields = rw other at known in
-          let its : fs ≡ fields = same_Some _ _ (sym known_before ∙ same_known) in
-          let (x, field) = joined-complete _ fs ds joins n f (rw its at) in
-          rw (has, field) (less same_known ds has)
+  where
+    cases : (o : Option (List Ty)) → layout_by types earlier p ≡ o
+        → (fields_by earlier s ≡ Some fields → (ds : List Ty) → layout_by types earlier p ≡ Some ds → rank types earlier f.ty < rank types earlier p)
+        → rank types (d ∷ earlier) f.ty < rank types (d ∷ earlier) p
+    cases None has less =
+        let joins = joined_here types d earlier p s cs is has complete in
+        let its : d.fields ≡ fields = same_Some _ _ (rw joins.0 at known) in
+        let (x, field) = joined-complete _ d.fields cs joins.1 n f (rw its at) in
+        rw (has, field) (omega (arith, rank-le types earlier f.ty))
+    cases (Some ds) has less =
+        let before = sym (struct_is types earlier p s is) ∙ has in
+        let (fs, known_before, joins) = struct-joined types earlier once.1 s ds before in
+        let other = defined_apart d earlier s fs once.0 known_before in
+        let same_known : fields_by earlier s ≡ Some fields = rw other at known in
+        let its : fs ≡ fields = same_Some _ _ (sym known_before ∙ same_known) in
+        let (x, field) = joined-complete _ fs ds joins n f (rw its at) in
+        rw (has, field) (less same_known ds has)

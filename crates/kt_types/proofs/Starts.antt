@@ -6,9 +6,10 @@ use Rattle.std.proofs.lemmas.Bool.{cases_lt, leb-true, leb-false}
 module _ (xs : List ℕ) (cell i : ℕ) (point : IsPartitionPoint (λ y. leb y cell ≡ true) (λ y. leb y cell ≡ false) xs i) (some : 1 ≤ length xs) (first : get_or xs 0 0 ≤ cell) where
   pub start_before : 1 ≤ i
   start_before =
-      elim (cases_lt 0 i)
-      [ inl later ↦ omega arith
-      | inr here ↦ absurd (omega (arith, leb-false (get_or xs 0 0) cell (point.1 0 0 here (omega arith)))) ]
+      elim (cases_lt 0 i) [
+        | inl later ↦ omega arith
+        | inr here ↦ absurd (omega (arith, leb-false (get_or xs 0 0) cell (point.1 0 0 here (omega arith))))
+      ]
 
   pub start_from : get_or xs (i - 1) 0 ≤ cell
   start_from =

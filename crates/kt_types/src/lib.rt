@@ -9,8 +9,8 @@ mod table;
 
 pub use faults::TypeFault;
 pub use kinds::{Field, FieldDecl, Ty, View};
-pub use table::{CELL_LIMIT, TypeTable};
 pub use lists::{Numbers, Points, Text, Turns};
+pub use table::{CELL_LIMIT, TypeTable};
 
 #[cfg(test)]
 mod tests;

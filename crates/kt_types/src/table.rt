@@ -2,6 +2,7 @@
 ghost use Rattle.std.specs.Prelude.{◌≡◌, ℕ, ◌+◌, ◌*◌, ◌^◌, ◌<◌, ◌≤◌, ◌↔◌, List, length, slice_get, option_and_then, IsTrue, IsSome, IfOk, OnOk, OnErr, MatchOption, IfErr, slice_index, Some, None};
 ghost use Rattle.std.specs.List.Sorted.{IsNonDecreasing};
 ghost use Rattle.std.specs.Bool.{MatchBool};
+ghost use Rattle.std.specs.Option.{option_copied};
 ghost use Rattle.indexmap.specs.IndexMap.{index_map_len, set_value_at};
 ghost use Rattle.kt_types.specs.Kept.{AreNames, AreStarts, IsCounted, IsLaidOut, IsPart};
 ghost use Rattle.kt_types.specs.Layout.{cells, layout, joined, cell_limit, cells_before, field_named, CanDefine, IsComplete, IsFaulty, IsFitting, NamesPlaces};
@@ -149,6 +150,40 @@ impl TypeTable {
     {
         match self.types.get_index(ty as usize) {
             Some((kind, _)) => Some(*kind),
+            None => None,
+        }
+    }
+
+    /// How many types the table has: its places are the numbers below.
+    pub fn type_count(&self) -> u32
+        ensures { result ≡ length self.now.types }
+    {
+        self.types.len() as u32
+    }
+
+    /// How many structs are declared: their numbers are those below.
+    pub fn struct_count(&self) -> u32
+        ensures { result ≡ length self.now.structs }
+    {
+        self.structs.len() as u32
+    }
+
+    /// The name of the struct, if one of this number is declared.
+    pub fn struct_name(&self, s: u32) -> Option<&[u8]>
+        ensures { option_copied result ≡ slice_get self.now.structs s }
+    {
+        match self.structs.get_index(s as usize) {
+            Some((name, _)) => Some(name.as_slice()),
+            None => None,
+        }
+    }
+
+    /// The fields of the struct, in the order of their declarations, if it is defined.
+    pub fn fields(&self, s: u32) -> Option<&[FieldDecl]>
+        ensures { option_copied result ≡ fields_of self.now s }
+    {
+        match self.layout_of(s) {
+            Some(layout) => Some(layout.fields.as_slice()),
             None => None,
         }
     }

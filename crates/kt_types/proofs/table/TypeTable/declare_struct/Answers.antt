@@ -50,7 +50,7 @@ absent c q at =
 added : (c : goal.In_ok-insert) → c.insert.new.self.entries ≡ c.self.inside.structs.entries ++ (c.in_ok-name.name, None) ∷ []
 added c =
     let none : lookup (λ k. pointwise ◌==◌ c.in_ok-name.name.items k.items) c.self.inside.structs.entries ≡ None =
-        subst (λ n. lookup (λ k. pointwise ◌==◌ n k.items) c.self.inside.structs.entries ≡ None) (sym c.in_ok-name.ensures.items) (is_none _ c.in_default.ensures.found) in
+    subst (λ n. lookup (λ k. pointwise ◌==◌ n k.items) c.self.inside.structs.entries ≡ None) (sym c.in_ok-name.ensures.items) (is_none _ c.in_default.ensures.found) in
     c.in_ok-insert.ensures.entries ∙ insert_entry-new (λ x y. pointwise ◌==◌ x.items y.items) c.self.inside.structs c.in_ok-name.name None none
 
 pub invariant_of-self-2 : goal.invariant_of-self-2

@@ -60,13 +60,14 @@ invariant_of-self-2 c =
     let (cs, joins) = are_joined c in
     let laid = are_laid c in
     definition-kept c.self.inside c.args.self.now c.self.view_is (definition c) c.note_place.new.structs.entries c.push.new.self.items
-      (noted c) c.in_ok-push.ensures.items c.self.invariant c.requires.declared (is_new c).0
-      (new-laid c.args.self.now (definition c) (is_new c).0 cs joins laid.0 laid.1 laid.2 laid.3 c.requires.some_field (names_are c))
+    (noted c) c.in_ok-push.ensures.items c.self.invariant c.requires.declared (is_new c).0
+    (new-laid c.args.self.now (definition c) (is_new c).0 cs joins laid.0 laid.1 laid.2 laid.3 c.requires.some_field (names_are c))
 
 pub returns-clause-ok : goal.returns-clause-ok
 returns-clause-ok c =
     let (cs, joins) = are_joined c in
-    let laid = are_laid c in
-    ((is_new c, cs, joins, subst (λ n. n ≤ cell_limit) (laid.1 ∙ sym (joined-length c.args.self.now c.args.fields.items cs joins)) laid.2),
-    definition-table c.self.inside c.args.self.now c.self.view_is (definition c) c.note_place.new.structs.entries c.push.new.self.items
-      (noted c) c.in_ok-push.ensures.items)
+    let laid = are_laid c in (
+      (is_new c, cs, joins, subst (λ n. n ≤ cell_limit) (laid.1 ∙ sym (joined-length c.args.self.now c.args.fields.items cs joins)) laid.2),
+      definition-table c.self.inside c.args.self.now c.self.view_is (definition c) c.note_place.new.structs.entries c.push.new.self.items
+          (noted c) c.in_ok-push.ensures.items,
+    )

@@ -24,8 +24,8 @@ returns c =
     let same = names-len c.args.self.now d laid in
     let within : c.in_ok-index.index < length d.fields.items = omega (arith, same, c.in_ok-index.ensures.within) in
     let field : slice_get d.fields.items c.in_ok-index.index ≡ Some c.index-field.result.now =
-        slice_get-get_or d.fields.items c.in_ok-index.index c.index-field.result.now within ∙ ap Some (sym c.index-field.ensures) in
+    slice_get-get_or d.fields.items c.in_ok-index.index c.index-field.result.now within ∙ ap Some (sym c.index-field.ensures) in
     let start : c.index.result.now ≡ cells_before c.args.self.now d.fields.items c.in_ok-index.index =
-        get_or_read d.starts.items c.in_ok-index.index c.index.result.now (omega (arith, within, laid.starts.len)) c.index.ensures 0
-        ∙ get_or_from_slice_get d.starts.items c.in_ok-index.index _ 0 (laid.starts.each c.in_ok-index.index within) in
+    get_or_read d.starts.items c.in_ok-index.index c.index.result.now (omega (arith, within, laid.starts.len)) c.index.ensures 0
+    ∙ get_or_from_slice_get d.starts.items c.in_ok-index.index _ 0 (laid.starts.each c.in_ok-index.index within) in
     named-some c.args.self.now c.args.s d laid c.in_ok-layout.ensures.1 c.args.name.now c.in_ok-index.index c.in_ok-index.ensures.index c.index-field.result.now field c.index.result.now start

@@ -34,7 +34,7 @@ pub cells_of-requires : goal.cells_of-requires
 cells_of-requires c =
     let found = type-at c.self.inside c.args.self.now c.self.view_is c.self.invariant c.args.ty c.in-Some.kind.now c.in-Some.field-0-1.now c.in-Some.ensures.entry in
     let counted : IsCounted c.args.self.now c.args.ty (Array c.in-Array.element c.in-Array.field-1) c.in-Some.field-0-1.now =
-        subst (λ ty. IsCounted c.args.self.now c.args.ty ty c.in-Some.field-0-1.now) c.in-Array.is found.1 in
+    subst (λ ty. IsCounted c.args.self.now c.args.ty ty c.in-Some.field-0-1.now) c.in-Array.is found.1 in
     some-of _ counted.0 counted.2
 
 pub returns-in-Some-layout_of : goal.returns-in-Some-layout_of
@@ -44,23 +44,23 @@ returns-in-Some-layout_of c =
     let within : c.last_start-n.result < length d.starts.items = subst (λ xs. c.last_start-n.result < length xs) c.deref.ensures.value c.last_start-n.ensures.within in
     let from : get_or d.starts.items c.last_start-n.result 0 ≤ c.args.cell = subst (λ xs. get_or xs c.last_start-n.result 0 ≤ c.args.cell) c.deref.ensures.value c.last_start-n.ensures.from in
     let to : c.last_start-n.result + 1 < length d.starts.items → c.args.cell < get_or d.starts.items (c.last_start-n.result + 1) 0 =
-        subst (λ xs. c.last_start-n.result + 1 < length xs → c.args.cell < get_or xs (c.last_start-n.result + 1) 0) c.deref.ensures.value c.last_start-n.ensures.to in
+    subst (λ xs. c.last_start-n.result + 1 < length xs → c.args.cell < get_or xs (c.last_start-n.result + 1) 0) c.deref.ensures.value c.last_start-n.ensures.to in
     let same_len = c.in-Some-layout_of.ensures.0.starts.len in
     let field : slice_get d.fields.items c.last_start-n.result ≡ Some c.index.result.now =
-        slice_get-get_or d.fields.items c.last_start-n.result c.index.result.now (omega (arith, same_len)) ∙ ap Some (sym c.index.ensures) in
+    slice_get-get_or d.fields.items c.last_start-n.result c.index.result.now (omega (arith, same_len)) ∙ ap Some (sym c.index.ensures) in
     let start : c.index-in-Some-layout_of.result.now ≡ get_or d.starts.items c.last_start-n.result 0 =
-        get_or_read d.starts.items c.last_start-n.result c.index-in-Some-layout_of.result.now within c.index-in-Some-layout_of.ensures 0 in
+    get_or_read d.starts.items c.last_start-n.result c.index-in-Some-layout_of.result.now within c.index-in-Some-layout_of.ensures 0 in
     subst (λ m. IsPart c.args.self.now c.args.ty c.args.cell c.index.result.now.ty (c.args.cell - m)) (sym start)
     (part-field c.args.self.now (defined-once c.self.inside c.args.self.now c.self.view_is c.self.invariant) c.args.ty c.in-Struct.s d
-      (found.0 ∙ ap Some c.in-Struct.is) c.in-Some-layout_of.ensures.0 c.in-Some-layout_of.ensures.1 c.last_start-n.result c.args.cell within from to c.requires.within c.index.result.now field)
+    (found.0 ∙ ap Some c.in-Struct.is) c.in-Some-layout_of.ensures.0 c.in-Some-layout_of.ensures.1 c.last_start-n.result c.args.cell within from to c.requires.within c.index.result.now field)
 
 pub returns-in-Array : goal.returns-in-Array
 returns-in-Array c =
     let found = type-at c.self.inside c.args.self.now c.self.view_is c.self.invariant c.args.ty c.in-Some.kind.now c.in-Some.field-0-1.now c.in-Some.ensures.entry in
     let counted : IsCounted c.args.self.now c.args.ty (Array c.in-Array.element c.in-Array.field-1) c.in-Some.field-0-1.now =
-        subst (λ ty. IsCounted c.args.self.now c.args.ty ty c.in-Some.field-0-1.now) c.in-Array.is found.1 in
+    subst (λ ty. IsCounted c.args.self.now c.args.ty ty c.in-Some.field-0-1.now) c.in-Array.is found.1 in
     part-array c.args.self.now c.args.ty c.in-Array.element c.in-Array.field-1 c.in-Some.field-0-1.now c.args.cell (c.args.cell % c.cells_of.result)
-      (found.0 ∙ ap Some c.in-Array.is) counted c.requires.within (ap (λ m. c.args.cell % m) c.cells_of.ensures.count)
+    (found.0 ∙ ap Some c.in-Array.is) counted c.requires.within (ap (λ m. c.args.cell % m) c.cells_of.ensures.count)
 
 pub returns-in_default : goal.returns-in_default
 returns-in_default c =
