@@ -1,0 +1,16 @@
+pub mod Added
+pub mod Cells
+pub mod Complete
+pub mod Counts
+pub mod Defined
+pub mod Growth
+pub mod Keeps
+pub mod Keyed
+pub mod Laws
+pub mod Lookup
+pub mod Names
+pub mod Parts
+pub mod Ranks
+pub mod SameType
+pub mod Starts
+pub mod Views

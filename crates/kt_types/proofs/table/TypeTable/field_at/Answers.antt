@@ -1,0 +1,31 @@
+use Rattle.std.proofs.Common.{◌≡◌, ℕ, ◌<◌, ◌≤◌, length, Option, None, Some, slice_get, sym, ap, ◌∙◌, subst, get_or, arith, map}
+use Rattle.std.proofs.lemmas.List.{get_or_read, length-map}
+use Rattle.std.proofs.lemmas.Option.{slice_get-get_or, get_or_from_slice_get}
+use Rattle.kt_types.specs.Layout.{cells_before}
+use Rattle.kt_types.proofs.Lookup.{named-none, named-some, names-len}
+use Rattle.kt_types.proofs.table.TypeTable.field_at.Goals as goal
+
+pub returns-in_err-index : goal.returns-in_err-index
+returns-in_err-index c =
+    c.from_residual-in_err-index.ensures
+    ∙ named-none c.args.self.now c.args.s c.in_ok-layout.layout.now c.in_ok-layout.ensures.0 c.in_ok-layout.ensures.1 c.args.name.now c.in_err-index.ensures.index
+
+pub overflow_cast-result : goal.overflow_cast-result
+overflow_cast-result c =
+    let few = c.in_ok-layout.ensures.0 in
+    let same = names-len c.args.self.now c.in_ok-layout.layout.now few in
+    let within = c.in_ok-index.ensures.within in
+    omega (arith, few.few_fields, few.few_cells, same, within)
+
+pub returns : goal.returns
+returns c =
+    let d = c.in_ok-layout.layout.now in
+    let laid = c.in_ok-layout.ensures.0 in
+    let same = names-len c.args.self.now d laid in
+    let within : c.in_ok-index.index < length d.fields.items = omega (arith, same, c.in_ok-index.ensures.within) in
+    let field : slice_get d.fields.items c.in_ok-index.index ≡ Some c.index-field.result.now =
+    slice_get-get_or d.fields.items c.in_ok-index.index c.index-field.result.now within ∙ ap Some (sym c.index-field.ensures) in
+    let start : c.index.result.now ≡ cells_before c.args.self.now d.fields.items c.in_ok-index.index =
+    get_or_read d.starts.items c.in_ok-index.index c.index.result.now (omega (arith, within, laid.starts.len)) c.index.ensures 0
+    ∙ get_or_from_slice_get d.starts.items c.in_ok-index.index _ 0 (laid.starts.each c.in_ok-index.index within) in
+    named-some c.args.self.now c.args.s d laid c.in_ok-layout.ensures.1 c.args.name.now c.in_ok-index.index c.in_ok-index.ensures.index c.index-field.result.now field c.index.result.now start

@@ -1,0 +1,6 @@
+pub mod Inside
+pub mod Kept
+pub mod Layout
+pub mod PointNames
+pub mod Rank
+pub mod Table
