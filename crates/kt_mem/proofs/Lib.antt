@@ -1,0 +1,7 @@
+pub mod Division
+pub mod Names
+pub mod Places
+pub mod Changes
+pub mod MemoryLaws
+pub mod CauseLaws
+pub mod TypedAnswers

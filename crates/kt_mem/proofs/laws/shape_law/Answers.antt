@@ -1,0 +1,5 @@
+use Rattle.kt_mem.proofs.MemoryLaws.{shapes_stay}
+use Rattle.kt_mem.proofs.laws.shape_law.Goals as goal
+
+pub returns : goal.returns
+returns c = shapes_stay
