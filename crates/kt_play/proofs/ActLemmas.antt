@@ -46,19 +46,19 @@ come_to : (code : List Instr) (m : Machine) (w : World) (h : Head) → StandsFor
     HasHead (AgreeFor settle (machine_settle code)) (settle w.thread) (machine_settle code m.thread) (Some h)
 come_to code m w h s e =
     subst (HasHead (AgreeFor settle (machine_settle code)) (settle w.thread) (machine_settle code m.thread)) e
-        (head-alike (AgreeFor settle (machine_settle code)) (settle w.thread) (machine_settle code m.thread) (λ n. s.thread (suc n)))
+    (head-alike (AgreeFor settle (machine_settle code)) (settle w.thread) (machine_settle code m.thread) (λ n. s.thread (suc n)))
 
 trapped : (code : List Instr) (m m' : Machine) (t : Trap) → head_of (machine_settle code m.thread) ≡ Some (head.Trap t) → m'.output ≡ m.output →
     Advances code m m' (Some (end.Trap 0 t))
 trapped code m m' t e o w s ongoing =
     subst (λ (x : Step Work). HasActed code m' (Some (end.Trap 0 t)) (act w x)) (sym (come_to code m w (head.Trap t) s e))
-        (record { ended = refl; output = o ∙ s.output; stands = λ none. cc })
+    (record { ended = refl; output = o ∙ s.output; stands = λ none. cc })
 
 returned : (code : List Instr) (m m' : Machine) (v : ℤ) → head_of (machine_settle code m.thread) ≡ Some (head.End v) → m'.output ≡ m.output →
     Advances code m m' (Some (end.Main v))
 returned code m m' v e o w s ongoing =
     subst (λ (x : Step Work). HasActed code m' (Some (end.Main v)) (act w x)) (sym (come_to code m w (head.End v) s e))
-        (record { ended = refl; output = o ∙ s.output; stands = λ none. cc })
+    (record { ended = refl; output = o ∙ s.output; stands = λ none. cc })
 
 -- a reply's thread, where the reply is known
 after : (code : List Instr) (go : Reply → Work) (y : Step State) (t : State) (reply reply' : Reply) → reply ≡ reply' → GoesOn y reply t →
@@ -71,20 +71,46 @@ performed : (code : List Instr) (m m' : Machine) (a : Act) (reply : Reply) (w : 
     ((r : Reply) (u : State) → GoesOn (machine_settle code m.thread) r u → (n : ℕ) → AgreeFor settle (machine_settle code) n (go r) u) →
     StandsFor code m w → w.ended ≡ None → HasActed code m' None (act w (Acts a go))
 performed code m m' Tick reply w go p goes k s ongoing =
-    record { ended = ongoing; output = p.1 ∙ s.output; stands = λ none. record {
-        memory = p.0 ∙ s.memory; output = p.1 ∙ s.output; thread = after code go _ _ _ _ p.2 goes k } }
+    record {
+      ended = ongoing;
+      output = p.1 ∙ s.output;
+      stands = λ none. record {
+        memory = p.0 ∙ s.memory;
+        output = p.1 ∙ s.output;
+        thread = after code go _ _ _ _ p.2 goes k;
+      };
+    }
 performed code m m' (Load g) reply w go p goes k s ongoing =
-    record { ended = ongoing; output = p.1 ∙ s.output; stands = λ none. record {
-        memory = p.0 ∙ s.memory; output = p.1 ∙ s.output;
-        thread = after code go _ _ _ _ (p.2 ∙ ap (λ (l : List ℤ). Got (value_at l g)) s.memory) goes k } }
+    record {
+      ended = ongoing;
+      output = p.1 ∙ s.output;
+      stands = λ none. record {
+        memory = p.0 ∙ s.memory;
+        output = p.1 ∙ s.output;
+        thread = after code go _ _ _ _ (p.2 ∙ ap (λ (l : List ℤ). Got (value_at l g)) s.memory) goes k;
+      };
+    }
 performed code m m' (Store g v) reply w go p goes k s ongoing =
-    record { ended = ongoing; output = p.1 ∙ s.output; stands = λ none. record {
-        memory = p.0 ∙ ap (λ (l : List ℤ). slice_set l g v) s.memory; output = p.1 ∙ s.output;
-        thread = after code go _ _ _ _ p.2 goes k } }
+    record {
+      ended = ongoing;
+      output = p.1 ∙ s.output;
+      stands = λ none. record {
+        memory = p.0 ∙ ap (λ (l : List ℤ). slice_set l g v) s.memory;
+        output = p.1 ∙ s.output;
+        thread = after code go _ _ _ _ p.2 goes k;
+      };
+    }
 performed code m m' (Print b) reply w go p goes k s ongoing =
     let o = p.1 ∙ ap (λ (l : List ℕ). l ++ b ∷ []) s.output in
-    record { ended = ongoing; output = o; stands = λ none. record {
-        memory = p.0 ∙ s.memory; output = o; thread = after code go _ _ _ _ p.2 goes k } }
+    record {
+      ended = ongoing;
+      output = o;
+      stands = λ none. record {
+        memory = p.0 ∙ s.memory;
+        output = o;
+        thread = after code go _ _ _ _ p.2 goes k;
+      };
+    }
 
 acted : (code : List Instr) (m m' : Machine) (settled : State) (a : Act) (reply : Reply) →
     head_of (machine_settle code m.thread) ≡ Some (head.Act a) → machine_step code settled ≡ machine_settle code m.thread →
@@ -93,7 +119,7 @@ acted : (code : List Instr) (m m' : Machine) (settled : State) (a : Act) (reply 
 acted code m m' settled a reply e stands p goes w s ongoing =
     let both = come_to code m w (head.Act a) s e in
     subst (λ (x : Step Work). HasActed code m' None (act w x)) (sym both.1)
-        (performed code m m' a reply w both.0 p (subst (λ (y : Step State). GoesOn y reply m'.thread) stands goes) both.2 s ongoing)
+    (performed code m m' a reply w both.0 p (subst (λ (y : Step State). GoesOn y reply m'.thread) stands goes) both.2 s ongoing)
 
 -- the same for a machine that is seen as n
 pub trapped_as : (code : List Instr) (m n m' : Machine) (t : Trap) → m ≡ n → head_of (machine_settle code m.thread) ≡ Some (head.Trap t) →

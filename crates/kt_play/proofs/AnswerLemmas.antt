@@ -26,8 +26,12 @@ use Rattle.kt_play.specs.Status.{end_of, refusal_line, status_of}
 played : (call : Call) (source : Source) (how : End) → IsAccepted call.words call.told source → IsWhole source how call.out call.log →
     HasPlayed call.words call.told call.out call.log how
 played call source how a w = record {
-    output = w.output; journal = w.journal; output_taken = w.output_taken; journal_taken = w.journal_taken;
-    run = record { source = source; accepted = a; turns = w.turns; run = w.run } }
+  output = w.output;
+  journal = w.journal;
+  output_taken = w.output_taken;
+  journal_taken = w.journal_taken;
+  run = record { source = source; accepted = a; turns = w.turns; run = w.run };
+}
 
 ran-headline : (call : Call) (u l : Type 0) (s : Status) (source : Source) → IsAccepted call.words call.told source →
     IsOutcome s source call.out call.log u l → IfSome (end_of s) (HasPlayed call.words call.told call.out call.log)
@@ -90,8 +94,12 @@ no_memory call u l s (inr t) e = (t.unwritten, (subst (λ (k : Status). IsRefuse
 failed : (call : Call) (l : Type 0) (source : Source) → IsAccepted call.words call.told source → IsPart source call.out call.log l →
     HasFailed call.words call.told call.out call.log l
 failed call l source a p = record {
-    how = p.how; output = p.output; journal = p.journal; fails = p.fails;
-    run = record { source = source; accepted = a; turns = p.turns; run = p.run } }
+  how = p.how;
+  output = p.output;
+  journal = p.journal;
+  fails = p.fails;
+  run = record { source = source; accepted = a; turns = p.turns; run = p.run };
+}
 
 pub write_fault : (call : Call) (u l : Type 0) (s : Status) → IsAnswer call u l s → s ≡ WriteFault → HasFailed call.words call.told call.out call.log l
 write_fault call u l s (inl r) e =

@@ -66,7 +66,7 @@ is_read_to_more globals braces tokens statements rest s after so_far unclosed re
       let m : ℕ = limit - length statements in
       let l : length (statements ++ s ∷ []) ≡ length statements + 1 = length-append statements (s ∷ []) in
       let e : limit - length (statements ++ s ∷ []) ≡ m - 1 = omega arith in
-      let step : block_at m globals braces rest ≡ block_at (m - 1) globals braces after >>= λ b. Some (Then (statement_of s) b.0, b.1) = rw (block_at-step m globals braces rest (omega arith) , unclosed, read (m - 1) (omega arith)) refl in
+      let step : block_at m globals braces rest ≡ block_at (m - 1) globals braces after >>= λ b. Some (Then (statement_of s) b.0, b.1) = rw (block_at-step m globals braces rest (omega arith), unclosed, read (m - 1) (omega arith)) refl in
       so_far.same limit le ∙ ap (with_front statements) step ∙ with_front-push statements s (block_at (m - 1) globals braces after) ∙ ap (λ n. with_front (statements ++ s ∷ []) (block_at n globals braces after)) (sym e);
 }
 

@@ -34,11 +34,18 @@ pub refused : (told : Option FileMap) (name start items : List ℕ) (before now 
 refused told name start items before now (Ok p) s e h = tt
 refused told name start items before now (Err Words) s e h = h
 refused told name start items before now (Err (Read which)) s e h = absurd h
-refused told name start items before now (Err (File n (Later at))) s e h =
-    (h.0, h.1, record { bytes = s.0; holds = s.1; no_program = λ source text.
+refused told name start items before now (Err (File n (Later at))) s e h = (
+  h.0,
+  h.1,
+  record {
+    bytes = s.0;
+    holds = s.1;
+    no_program = λ source text.
         h.2 source (subst (λ bytes. IsProgramText bytes source)
-            (let n = length-take 262145 s.0 in
-             let short = text.short in
-             let all : length s.0 ≤ 262145 = omega arith in
-             sym (take_all 262145 s.0 all) ∙ sym (e ∙ s.2)) text) })
+        (let n = length-take 262145 s.0 in
+        let short = text.short in
+        let all : length s.0 ≤ 262145 = omega arith in
+        sym (take_all 262145 s.0 all) ∙ sym (e ∙ s.2)) text);
+  },
+)
 refused told name start items before now (Err Memory) s e h = tt

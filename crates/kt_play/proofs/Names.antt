@@ -67,8 +67,8 @@ again_from (g ∷ gs) k zero named lt =
 again_from (g ∷ gs) k (suc n) named lt =
     let within : n < length gs = omega arith in
     let differ : g.name ≡ name_of gs n → ⊥ = λ e.
-        let there : place_from 0 gs g.name ≡ Some (0 + n) = ap (place_from 0 gs) e ∙ again_from gs 0 n named.2 within in
-        let none : place_from 0 gs g.name ≡ None = named.1 in absurd cc in
+    let there : place_from 0 gs g.name ≡ Some (0 + n) = ap (place_from 0 gs) e ∙ again_from gs 0 n named.2 within in
+    let none : place_from 0 gs g.name ≡ None = named.1 in absurd cc in
     second (bytes_eq g.name (name_of gs n)) (Some k) (place_from (k + 1) gs (name_of gs n)) (bytes_eq-differs g.name (name_of gs n) differ)
     ∙ again_from gs (k + 1) n named.2 within ∙ (let e : k + 1 + n ≡ k + suc n = omega arith in ap (λ (n : ℕ). Some n) e)
 

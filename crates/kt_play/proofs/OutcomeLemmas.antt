@@ -21,8 +21,13 @@ whole : (source : Source) (turns : ℕ) (how e : End) (output : List ℕ) (out l
     (how ≡ e) × Takes out output × Takes log (journal_of (replicate turns 0) how) → IsWhole source e out log
 whole source turns how e output out log r w =
     subst (λ (k : End). IsWhole source k out log) w.0 (record {
-        turns = replicate turns 0; output = output; journal = journal_of (replicate turns 0) how;
-        run = run_of source turns how output r; output_taken = w.1; journal_taken = w.2 })
+      turns = replicate turns 0;
+      output = output;
+      journal = journal_of (replicate turns 0) how;
+      run = run_of source turns how output r;
+      output_taken = w.1;
+      journal_taken = w.2;
+    })
 
 pub outcome : (answer : Status) (source : Source) (turns : ℕ) (how : End) (output : List ℕ) (out log : Writes) (untouched log_untouched : Type 0) →
     HasRun budget (first_world_of source) turns how output →
@@ -32,8 +37,13 @@ outcome (Main v) source turns how output out log u l r w = whole source turns ho
 outcome (Trap t cause) source turns how output out log u l r w = whole source turns how _ output out log r w
 outcome Budget source turns how output out log u l r w = whole source turns how _ output out log r w
 outcome WriteFault source turns how output out log u l r w = record {
-    how = how; turns = replicate turns 0; output = output; journal = journal_of (replicate turns 0) how;
-    run = run_of source turns how output r; fails = w }
+  how = how;
+  turns = replicate turns 0;
+  output = output;
+  journal = journal_of (replicate turns 0) how;
+  run = run_of source turns how output r;
+  fails = w;
+}
 outcome NoMemory source turns how output out log u l r w = w
 outcome Words source turns how output out log u l r w = w
 outcome (ReadFault which) source turns how output out log u l r w = w

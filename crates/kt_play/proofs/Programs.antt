@@ -87,9 +87,9 @@ main_at-is globals tokens body e =
     let b = body_at-is globals t.value body t.then_gave in
     let v = behind_void-is r.value in
     let inner : r.value ≡ (parameter_tokens v.with_void ++ Mark CloseParenthesis ∷ Mark OpenBrace ∷ block_tokens globals body) ++ Mark CloseBrace ∷ [] =
-        v.parts
-        ∙ ap (λ (x : List Token). parameter_tokens v.with_void ++ x) (behind_close-is (behind_void r.value) s.value s.gave ∙ ap (λ (x : List Token). Mark CloseParenthesis ∷ x) (behind_brace-is s.value t.value t.gave ∙ ap (λ (x : List Token). Mark OpenBrace ∷ x) b.parts))
-        ∙ sym (append_assoc (parameter_tokens v.with_void) (Mark CloseParenthesis ∷ Mark OpenBrace ∷ block_tokens globals body) (Mark CloseBrace ∷ [])) in
+    v.parts
+    ∙ ap (λ (x : List Token). parameter_tokens v.with_void ++ x) (behind_close-is (behind_void r.value) s.value s.gave ∙ ap (λ (x : List Token). Mark CloseParenthesis ∷ x) (behind_brace-is s.value t.value t.gave ∙ ap (λ (x : List Token). Mark OpenBrace ∷ x) b.parts))
+    ∙ sym (append_assoc (parameter_tokens v.with_void) (Mark CloseParenthesis ∷ Mark OpenBrace ∷ block_tokens globals body) (Mark CloseBrace ∷ [])) in
     record {
       with_void = v.with_void;
       parts = ap (λ (x : List Token). Word (codes "int") ∷ Word (codes "main") ∷ x) (behind_open-is tokens r.value r.gave ∙ ap (λ (x : List Token). Mark OpenParenthesis ∷ x) inner);

@@ -74,11 +74,12 @@ reached_as : (budget : ℕ) (first : World) (code : List Instr) (m : Machine) (n
     MayTurnAll budget first (replicate n 0) → v.turns ≡ n → StandsFor code m v → (n < budget → v.ended ≡ None) →
     (n ≡ budget → v.ended ≡ Some Budget) → HasReached budget first code m n
 reached_as budget first code m n v e may turns stands ongoing over = record {
-    may_turn = may;
-    turns = ap (λ (w : World). w.turns) e ∙ turns;
-    stands = subst (StandsFor code m) (sym e) stands;
-    ongoing = λ h. ap (λ (w : World). w.ended) e ∙ ongoing h;
-    over = λ h. ap (λ (w : World). w.ended) e ∙ over h }
+  may_turn = may;
+  turns = ap (λ (w : World). w.turns) e ∙ turns;
+  stands = subst (StandsFor code m) (sym e) stands;
+  ongoing = λ h. ap (λ (w : World). w.ended) e ∙ ongoing h;
+  over = λ h. ap (λ (w : World). w.ended) e ∙ over h;
+}
 
 may_go_on : (budget : ℕ) (first : World) (code : List Instr) (m : Machine) (n : ℕ) → n < budget → HasReached budget first code m n →
     MayTurnAll budget first (replicate (suc n) 0)
@@ -96,12 +97,13 @@ one_more budget first code m m' n h r a =
     let stands : StandsFor code m' u = record { memory = s.memory; output = s.output; thread = s.thread } in
     let may = may_go_on budget first code m n h r in
     elim (eqb_tells (suc n) budget) [
-      inl is ↦ reached_as budget first code m' (suc n) (record u { ended = Some Budget })
+      | inl is ↦ reached_as budget first code m' (suc n) (record u { ended = Some Budget })
           (after-suc budget first n ∙ within-over budget u a.ended (turns ∙ is.1)) may turns
           (record { memory = s.memory; output = s.output; thread = s.thread }) (λ k. absurd (omega (arith, is.1))) (λ k. refl)
-    | inr is_not ↦ reached_as budget first code m' (suc n) u
+      | inr is_not ↦ reached_as budget first code m' (suc n) u
           (after-suc budget first n ∙ within-ongoing budget u a.ended (strict u.turns n budget turns h is_not.1)) may turns
-          stands (λ k. a.ended) (λ k. absurd (is_not.1 k)) ]
+          stands (λ k. a.ended) (λ k. absurd (is_not.1 k))
+    ]
 
 -- an act that ends the run completes it
 ended_by_act : (budget : ℕ) (first : World) (code : List Instr) (m m' : Machine) (n : ℕ) (how : End) → n < budget →
@@ -110,9 +112,10 @@ ended_by_act : (budget : ℕ) (first : World) (code : List Instr) (m m' : Machin
 ended_by_act budget first code m m' n how h r a =
     let w : World = after budget first n in
     let u : World = counted (act w (settle w.thread)) in
-    let e : after budget first (suc n) ≡ u = after-suc budget first n ∙ within-ended budget u how a.ended in
-    (record { may_turn = may_go_on budget first code m n h r; ended = ap (λ (v : World). v.ended) e ∙ a.ended },
-     a.output ∙ sym (ap (λ (v : World). v.output) e))
+    let e : after budget first (suc n) ≡ u = after-suc budget first n ∙ within-ended budget u how a.ended in (
+      record { may_turn = may_go_on budget first code m n h r; ended = ap (λ (v : World). v.ended) e ∙ a.ended },
+      a.output ∙ sym (ap (λ (v : World). v.output) e),
+    )
 
 pub ran_to_act : (budget : ℕ) (first : World) (code : List Instr) (m m' : Machine) (n : ℕ) (how : End) → (o : Option End) (output : List ℕ) → n < budget →
     HasReached budget first code m n → Advances code m m' o → o ≡ Some how → output ≡ m'.output → HasRun budget first (n + 1) how output
@@ -121,7 +124,7 @@ ran_to_act budget first code m m' n how o output h r any e_how e_output =
     let done = ended_by_act budget first code m m' n how h r (advances (after budget first n) r.stands (r.ongoing h)) in
     let e : suc n ≡ n + 1 = omega arith in
     subst (λ (k : ℕ). HasRun budget first k how output) e
-        (record { some = omega arith; complete = done.0; output_is = e_output ∙ done.1 })
+    (record { some = omega arith; complete = done.0; output_is = e_output ∙ done.1 })
 
 -- and so does the last turn of the budget
 pub ran_to_budget : (budget : ℕ) (first : World) (code : List Instr) (m : Machine) → 0 < budget → HasReached budget first code m budget →
@@ -136,4 +139,4 @@ went_on budget first code m m' n o h r any none =
     let advances : Advances code m m' None = subst (λ (p : Option End). Advances code m m' p) none any in
     let e : suc n ≡ n + 1 = omega arith in
     subst (λ (k : ℕ). HasReached budget first code m' k) e
-        (one_more budget first code m m' n h r (advances (after budget first n) r.stands (r.ongoing h)))
+    (one_more budget first code m m' n h r (advances (after budget first n) r.stands (r.ongoing h)))

@@ -172,7 +172,7 @@ parenthesised_at-is globals tokens x e =
     let t = bind_some (behind_close s.value.1) (λ rest. Some (s.value.0, rest)) x s.then_gave in
     let p = expr_at-is globals r.value s.value s.gave in
     let inner : r.value ≡ (expr_tokens globals s.value.0 ++ Mark CloseParenthesis ∷ []) ++ t.value =
-        p.parts ∙ ap (λ (r : List Token). expr_tokens globals s.value.0 ++ r) (behind_close-is s.value.1 t.value t.gave) ∙ sym (append_assoc (expr_tokens globals s.value.0) (Mark CloseParenthesis ∷ []) t.value) in
+    p.parts ∙ ap (λ (r : List Token). expr_tokens globals s.value.0 ++ r) (behind_close-is s.value.1 t.value t.gave) ∙ sym (append_assoc (expr_tokens globals s.value.0) (Mark CloseParenthesis ∷ []) t.value) in
     subst (ParenthesisedStands globals tokens) (same_Some (s.value.0, t.value) x t.then_gave)
     (record { parts = behind_open-is tokens r.value r.gave ∙ ap (λ (r : List Token). Mark OpenParenthesis ∷ r) inner; declared = p.declared })
 
@@ -214,7 +214,7 @@ put_at-is globals tokens x e =
     let t = bind_some (behind_semicolon s.value.1) (λ rest. Some (head.Put s.value.0, rest)) x s.then_gave in
     let p = parenthesised_at-is globals tokens s.value s.gave in
     let parts : tokens ≡ (parenthesised globals s.value.0 ++ Mark Semicolon ∷ []) ++ t.value =
-        p.parts ∙ ap (λ (r : List Token). parenthesised globals s.value.0 ++ r) (behind_semicolon-is s.value.1 t.value t.gave) ∙ sym (append_assoc (parenthesised globals s.value.0) (Mark Semicolon ∷ []) t.value) in
+    p.parts ∙ ap (λ (r : List Token). parenthesised globals s.value.0 ++ r) (behind_semicolon-is s.value.1 t.value t.gave) ∙ sym (append_assoc (parenthesised globals s.value.0) (Mark Semicolon ∷ []) t.value) in
     subst (HeadStands globals (Word (codes "putchar") ∷ tokens)) (same_Some (head.Put s.value.0, t.value) x t.then_gave)
     (record { parts = ap (λ (t : List Token). Word (codes "putchar") ∷ t) parts; declared = p.declared })
 
@@ -274,7 +274,7 @@ worded_at-is : (globals : List Global) (word : List ℕ) (tokens : List Token) (
 unfolding worded_at
 worded_at-is globals word tokens x e =
     let back : (k : List ℕ) → bytes_eq word k ≡ true → HeadStands globals (Word k ∷ tokens) x → HeadStands globals (Word word ∷ tokens) x
-        = λ k t h. subst (λ (w : List ℕ). HeadStands globals (Word w ∷ tokens) x) (sym (bytes_eq-is word k t)) h in
+    = λ k t h. subst (λ (w : List ℕ). HeadStands globals (Word w ∷ tokens) x) (sym (bytes_eq-is word k t)) h in
     elim (either (bytes_eq word (codes "putchar"))) [
       | inl t ↦ back (codes "putchar") t (put_at-is globals tokens x (rw t at e))
       | inr a ↦ elim (either (bytes_eq word (codes "return"))) [

@@ -10,5 +10,7 @@ mod scan;
 mod source;
 mod token;
 
-
 pub use program::{one_program, read_program};
+
+#[cfg(test)]
+mod tests;

@@ -14,6 +14,5 @@ pub mod refuse;
 pub mod report;
 pub mod run;
 pub mod status;
-
 #[cfg(test)]
 mod tests;

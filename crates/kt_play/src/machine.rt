@@ -1,7 +1,7 @@
 //! The machine: it takes the turns of thread 0.
 
-use crate::end::End;
 use crate::effects::{first_values, perform};
+use crate::end::End;
 use kt_codegen::code::Code;
 use kt_codegen::run::{Head, Thread};
 use kt_meaning::tree::Program;

@@ -9,7 +9,13 @@ use crate::status::Status;
 use kt_edge::{Sink, write_whole};
 
 /// Writes the output of a run that ended so, and after it the journal. After a failing write nothing more is written.
-pub fn write_both<O: Sink, J: Sink>(output: &[u8], journal: &[u8], how: End, out: &mut O, log: &mut J) -> Status
+pub fn write_both<O: Sink, J: Sink>(
+    output: &[u8],
+    journal: &[u8],
+    how: End,
+    out: &mut O,
+    log: &mut J,
+) -> Status
     ensures { IsWritten result how (writes_of O.taken O.faults out.old out.new) (writes_of J.taken J.faults log.old log.new) (out.new ≡ out.old) (log.new ≡ log.old) output.now journal.now }
 {
     match write_whole(out, output) {

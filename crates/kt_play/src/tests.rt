@@ -8,12 +8,16 @@ use std::alloc::{AllocError, Global};
 use std::test::Fail;
 
 const FIRST: &str = "int main(){putchar('A');return 0;}";
+
 const APPEND: &str = "int n; int main(){while(n<3){putchar('a');n=n+1;}return n;}";
+
 const OVERFLOW: &str = "int n=2147483647; int main(){n=n+1;return 0;}";
+
 const ENDLESS: &str = "int main(){while(1){}}";
 
 const APPEND_JOURNAL: &str = "kit 1\nturn 0 18\nend main 3\n";
 
+#[derive(Drop)]
 struct Played {
     status: Status,
     out: Vec<u8>,
@@ -40,7 +44,10 @@ fn sink(alloc: Global, device: Device) -> Result<MemSink, AllocError> {
 
 fn files(alloc: Global, text: &str, fail_on: u64) -> Result<MemFiles, AllocError> {
     let mut entries = Vec::new(alloc);
-    entries.push((String::from_str(alloc, "one.c")?, text.as_bytes().to_vec(alloc)?))?;
+    entries.push((
+        String::from_str(alloc, "one.c")?,
+        text.as_bytes().to_vec(alloc)?,
+    ))?;
     Ok(MemFiles {
         entries,
         fail_on: [fail_on].to_vec(alloc)?,
@@ -69,7 +76,14 @@ fn call(
     };
     let mut out = sink(alloc, out)?;
     let mut log = sink(alloc, log)?;
-    let status = play(alloc, list.as_slice(), &mut files, &mut input, &mut out, &mut log);
+    let status = play(
+        alloc,
+        list.as_slice(),
+        &mut files,
+        &mut input,
+        &mut out,
+        &mut log,
+    );
     Ok(Played {
         status,
         out: out.taken.clone()?,
@@ -91,7 +105,13 @@ fn expect(rt: &impl std::process::Abort, played: &Played, status: Status, out: &
 #[test]
 fn first_program(rt: HostRuntime) -> Result<(), Fail> {
     let played = run(rt.alloc(), FIRST)?;
-    expect(&rt, &played, Status::Main(0), "A", "kit 1\nturn 0 2\nend main 0\n");
+    expect(
+        &rt,
+        &played,
+        Status::Main(0),
+        "A",
+        "kit 1\nturn 0 2\nend main 0\n",
+    );
     Ok(())
 }
 
@@ -109,14 +129,26 @@ fn overflow_traps(rt: HostRuntime) -> Result<(), Fail> {
         thread: 0,
         cause: Trap::Overflow,
     };
-    expect(&rt, &played, status, "", "kit 1\nturn 0 2\nend trap 0 overflow\n");
+    expect(
+        &rt,
+        &played,
+        status,
+        "",
+        "kit 1\nturn 0 2\nend trap 0 overflow\n",
+    );
     Ok(())
 }
 
 #[test]
 fn budget_ends_an_endless_loop(rt: HostRuntime) -> Result<(), Fail> {
     let played = run(rt.alloc(), ENDLESS)?;
-    expect(&rt, &played, Status::Budget, "", "kit 1\nturn 0 1000000\nend budget\n");
+    expect(
+        &rt,
+        &played,
+        Status::Budget,
+        "",
+        "kit 1\nturn 0 1000000\nend budget\n",
+    );
     Ok(())
 }
 
@@ -134,7 +166,13 @@ fn empty_file_is_later(rt: HostRuntime) -> Result<(), Fail> {
 #[test]
 fn words_that_are_no_order(rt: HostRuntime) -> Result<(), Fail> {
     for words in [[].as_slice(), &["one.c", "one.c"], &["-"], &["--x"], &[""]] {
-        let played = call(rt.alloc(), words, files(rt.alloc(), FIRST, 0)?, STEADY, STEADY)?;
+        let played = call(
+            rt.alloc(),
+            words,
+            files(rt.alloc(), FIRST, 0)?,
+            STEADY,
+            STEADY,
+        )?;
         expect(&rt, &played, Status::Words, "", "refuse words\n");
     }
     Ok(())
@@ -144,7 +182,13 @@ fn words_that_are_no_order(rt: HostRuntime) -> Result<(), Fail> {
 fn file_that_cannot_be_read(rt: HostRuntime) -> Result<(), Fail> {
     let status = Status::ReadFault(Which::File(1));
     for (name, fail_on, faults) in [("two.c", 0, 0), ("one.c", 1, 1)] {
-        let played = call(rt.alloc(), &[name], files(rt.alloc(), FIRST, fail_on)?, STEADY, STEADY)?;
+        let played = call(
+            rt.alloc(),
+            &[name],
+            files(rt.alloc(), FIRST, fail_on)?,
+            STEADY,
+            STEADY,
+        )?;
         expect(&rt, &played, status, "", "refuse read 1\n");
         assert_eq!(rt; played.faults, faults, "at {name}");
     }
@@ -155,7 +199,9 @@ fn file_that_cannot_be_read(rt: HostRuntime) -> Result<(), Fail> {
 fn front(text: &str, piece: u32, failing: u64) -> &[u8] {
     let taken = u64::from(piece).saturating_mul(failing.saturating_sub(1));
     let bytes = text.as_bytes();
-    let taken = usize::try_from(taken).unwrap_or(usize::MAX).min(bytes.len());
+    let taken = usize::try_from(taken)
+        .unwrap_or(usize::MAX)
+        .min(bytes.len());
     &bytes[..taken]
 }
 
@@ -164,21 +210,48 @@ fn each_write_fails_in_turn(rt: HostRuntime) -> Result<(), Fail> {
     // The output takes 3 bytes and the journal 27: these are their writes with pieces of 1 and of 7 bytes.
     for (piece, outs, logs) in [(1, 3, 27), (7, 1, 4)] {
         for failing in 1..outs + 1 {
-            let broken = Device { piece, fail_on: failing };
-            let played = call(rt.alloc(), &["one.c"], files(rt.alloc(), APPEND, 0)?, broken, STEADY)?;
+            let broken = Device {
+                piece,
+                fail_on: failing,
+            };
+            let played = call(
+                rt.alloc(),
+                &["one.c"],
+                files(rt.alloc(), APPEND, 0)?,
+                broken,
+                STEADY,
+            )?;
             assert_eq!(rt; played.status, Status::WriteFault);
             assert_eq!(rt; played.out.as_slice(), front("aaa", piece, failing));
             assert!(rt; played.log.is_empty());
         }
         for failing in 1..logs + 1 {
-            let broken = Device { piece, fail_on: failing };
-            let played = call(rt.alloc(), &["one.c"], files(rt.alloc(), APPEND, 0)?, STEADY, broken)?;
+            let broken = Device {
+                piece,
+                fail_on: failing,
+            };
+            let played = call(
+                rt.alloc(),
+                &["one.c"],
+                files(rt.alloc(), APPEND, 0)?,
+                STEADY,
+                broken,
+            )?;
             assert_eq!(rt; played.status, Status::WriteFault);
             assert_eq!(rt; played.out.as_slice(), b"aaa".as_slice());
-            assert_eq!(rt; played.log.as_slice(), front(APPEND_JOURNAL, piece, failing));
+            assert_eq!(rt;
+                played.log.as_slice(),
+                front(APPEND_JOURNAL, piece, failing)
+            );
         }
         let steady = Device { piece, fail_on: 0 };
-        let played = call(rt.alloc(), &["one.c"], files(rt.alloc(), APPEND, 0)?, steady, steady)?;
+        let played = call(
+            rt.alloc(),
+            &["one.c"],
+            files(rt.alloc(), APPEND, 0)?,
+            steady,
+            steady,
+        )?;
         expect(&rt, &played, Status::Main(3), "aaa", APPEND_JOURNAL);
     }
     Ok(())
@@ -187,11 +260,23 @@ fn each_write_fails_in_turn(rt: HostRuntime) -> Result<(), Fail> {
 #[test]
 fn a_refusal_keeps_its_answer_where_the_log_fails(rt: HostRuntime) -> Result<(), Fail> {
     for (piece, failing) in [(1, 1), (1, 13), (7, 2)] {
-        let broken = Device { piece, fail_on: failing };
-        let played = call(rt.alloc(), &[], files(rt.alloc(), FIRST, 0)?, STEADY, broken)?;
+        let broken = Device {
+            piece,
+            fail_on: failing,
+        };
+        let played = call(
+            rt.alloc(),
+            &[],
+            files(rt.alloc(), FIRST, 0)?,
+            STEADY,
+            broken,
+        )?;
         assert_eq!(rt; played.status, Status::Words);
         assert!(rt; played.out.is_empty());
-        assert_eq!(rt; played.log.as_slice(), front("refuse words\n", piece, failing));
+        assert_eq!(rt;
+            played.log.as_slice(),
+            front("refuse words\n", piece, failing)
+        );
     }
     Ok(())
 }

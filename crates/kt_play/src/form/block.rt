@@ -5,13 +5,12 @@ ghost use Rattle.std.specs.Option.{option_map};
 ghost use Rattle.kt_meaning.specs.Tree.{statement_of, block_of};
 ghost use Rattle.kt_play.specs.Reading.{Gives, behind_last_brace, inner_at, rest_at, statement_at, block_at};
 
-use kt_meaning::tree::{Global, Stmt};
-use sqlite_items::Items;
-use std::alloc::Global as Memory;
-
 use super::fault::Fault;
 use super::head::{Head, statement_head};
 use super::token::{Sign, Token};
+use kt_meaning::tree::{Global, Stmt};
+use sqlite_items::Items;
+use std::alloc::Global as Memory;
 
 /// The tokens behind a closing brace.
 #[tactic(auto, unfolding(crate::specs::Reading::behind_last_brace))]
@@ -27,7 +26,12 @@ pub(crate) fn behind_last_brace(tokens: &[Token]) -> Option<&[Token]>
 
 /// The block behind an opening brace, as far as its closing brace. `braces`: how many more may be open at once.
 #[cycle(blocks)]
-fn inner<'t>(alloc: Memory, globals: &[Global], braces: u8, tokens: &'t [Token]) -> Result<(Items<Stmt>, &'t [Token]), Fault>
+fn inner<'t>(
+    alloc: Memory,
+    globals: &[Global],
+    braces: u8,
+    tokens: &'t [Token],
+) -> Result<(Items<Stmt>, &'t [Token]), Fault>
     requires { length globals.now < 2 ^ 32 }
     ensures read { (limit : ℕ) → length tokens.now ≤ limit
         → Gives (λ x. (block_of x.0, x.1.now)) result (inner_at (block_at limit globals.now) braces tokens.now) }
@@ -42,7 +46,13 @@ fn inner<'t>(alloc: Memory, globals: &[Global], braces: u8, tokens: &'t [Token])
 /// The rest of a statement behind its head.
 #[tactic(auto, unfolding(crate::specs::Reading::rest_at))]
 #[cycle(blocks)]
-fn complete<'t>(alloc: Memory, globals: &[Global], braces: u8, head: Head, tokens: &'t [Token]) -> Result<(Stmt, &'t [Token]), Fault>
+fn complete<'t>(
+    alloc: Memory,
+    globals: &[Global],
+    braces: u8,
+    head: Head,
+    tokens: &'t [Token],
+) -> Result<(Stmt, &'t [Token]), Fault>
     requires { length globals.now < 2 ^ 32 }
     ensures read { (limit : ℕ) → length tokens.now ≤ limit
         → Gives (λ x. (statement_of x.0, x.1.now)) result (rest_at (block_at limit globals.now) braces head tokens.now) }
@@ -65,7 +75,12 @@ fn complete<'t>(alloc: Memory, globals: &[Global], braces: u8, head: Head, token
 
 #[tactic(auto, unfolding(crate::specs::Reading::statement_at))]
 #[cycle(blocks)]
-fn statement<'t>(alloc: Memory, globals: &[Global], braces: u8, tokens: &'t [Token]) -> Result<(Stmt, &'t [Token]), Fault>
+fn statement<'t>(
+    alloc: Memory,
+    globals: &[Global],
+    braces: u8,
+    tokens: &'t [Token],
+) -> Result<(Stmt, &'t [Token]), Fault>
     requires { length globals.now < 2 ^ 32 }
     ensures read { (limit : ℕ) → length tokens.now ≤ limit + 1
         → Gives (λ x. (statement_of x.0, x.1.now)) result (statement_at (block_at limit globals.now) globals.now braces tokens.now) }
@@ -77,7 +92,12 @@ fn statement<'t>(alloc: Memory, globals: &[Global], braces: u8, tokens: &'t [Tok
 
 /// The statements as far as a closing brace. `braces`: how many more may be open at once.
 #[cycle(blocks)]
-pub(crate) fn block<'t>(alloc: Memory, globals: &[Global], braces: u8, tokens: &'t [Token]) -> Result<(Items<Stmt>, &'t [Token]), Fault>
+pub(crate) fn block<'t>(
+    alloc: Memory,
+    globals: &[Global],
+    braces: u8,
+    tokens: &'t [Token],
+) -> Result<(Items<Stmt>, &'t [Token]), Fault>
     requires { length globals.now < 2 ^ 32 }
     ensures read { (limit : ℕ) → length tokens.now ≤ limit
         → Gives (λ x. (block_of x.0, x.1.now)) result (block_at limit globals.now braces tokens.now) }

@@ -5,10 +5,9 @@ ghost use Rattle.std.specs.Str.{bytes_eq};
 ghost use Rattle.kt_play.specs.Form.{place_of};
 ghost use Rattle.kt_play.specs.Reading.{Gives, operand_at, operator_of, operator_at, binary_at, expr_at, behind_semicolon, behind_open, behind_close, behind_brace, behind_assign, ended_at, parenthesised_at, condition_at};
 
-use kt_meaning::tree::{Expr, Global, Operand, Operator};
-
 use super::fault::Fault;
 use super::token::{Sign, Token};
+use kt_meaning::tree::{Expr, Global, Operand, Operator};
 
 fn is_named(global: &Global, name: &[u8]) -> bool
     ensures { result ≡ bytes_eq global.now.name name.now }
@@ -44,7 +43,10 @@ fn operand<'t>(globals: &[Global], tokens: &'t [Token]) -> Result<(Operand, &'t 
     match tokens {
         [Token::Number(value), rest @ ..] => Ok((Operand::Number(*value), rest)),
         [Token::Character(value), rest @ ..] => Ok((Operand::Character(*value), rest)),
-        [Token::Word(name), rest @ ..] => Ok((Operand::Global(place(globals, name.as_slice())?), rest)),
+        [Token::Word(name), rest @ ..] => Ok((
+            Operand::Global(place(globals, name.as_slice())?),
+            rest,
+        )),
         _ => Err(Fault::OutsideForm),
     }
 }
@@ -73,7 +75,11 @@ fn operator(tokens: &[Token]) -> Option<Operator>
 
 /// The expression whose first operand stands before these tokens.
 #[tactic(auto, unfolding(crate::specs::Reading::binary_at, crate::specs::Reading::operator_at))]
-fn binary<'t>(globals: &[Global], left: Operand, tokens: &'t [Token]) -> Result<(Expr, &'t [Token]), Fault>
+fn binary<'t>(
+    globals: &[Global],
+    left: Operand,
+    tokens: &'t [Token],
+) -> Result<(Expr, &'t [Token]), Fault>
     requires { length globals.now < 2 ^ 32 }
     ensures read { Gives (λ x. (x.0, x.1.now)) result (binary_at globals.now left (operator_at tokens.now) tokens.now) }
     ensures shorter { IfOk result (λ x. length x.1.now ≤ length tokens.now) }
@@ -164,7 +170,10 @@ pub(crate) fn behind_assign(tokens: &[Token]) -> Result<&[Token], Fault>
 
 /// An expression and a semicolon.
 #[tactic(auto, unfolding(crate::specs::Reading::ended_at))]
-pub(crate) fn ended<'t>(globals: &[Global], tokens: &'t [Token]) -> Result<(Expr, &'t [Token]), Fault>
+pub(crate) fn ended<'t>(
+    globals: &[Global],
+    tokens: &'t [Token],
+) -> Result<(Expr, &'t [Token]), Fault>
     requires { length globals.now < 2 ^ 32 }
     ensures read { Gives (λ x. (x.0, x.1.now)) result (ended_at globals.now tokens.now) }
     ensures shorter { IfOk result (λ x. length x.1.now < length tokens.now) }
@@ -175,7 +184,10 @@ pub(crate) fn ended<'t>(globals: &[Global], tokens: &'t [Token]) -> Result<(Expr
 
 /// An expression in parentheses.
 #[tactic(auto, unfolding(crate::specs::Reading::parenthesised_at))]
-pub(crate) fn parenthesised<'t>(globals: &[Global], tokens: &'t [Token]) -> Result<(Expr, &'t [Token]), Fault>
+pub(crate) fn parenthesised<'t>(
+    globals: &[Global],
+    tokens: &'t [Token],
+) -> Result<(Expr, &'t [Token]), Fault>
     requires { length globals.now < 2 ^ 32 }
     ensures read { Gives (λ x. (x.0, x.1.now)) result (parenthesised_at globals.now tokens.now) }
     ensures shorter { IfOk result (λ x. length x.1.now < length tokens.now) }
@@ -186,7 +198,10 @@ pub(crate) fn parenthesised<'t>(globals: &[Global], tokens: &'t [Token]) -> Resu
 
 /// An expression in parentheses, and an opening brace.
 #[tactic(auto, unfolding(crate::specs::Reading::condition_at))]
-pub(crate) fn condition<'t>(globals: &[Global], tokens: &'t [Token]) -> Result<(Expr, &'t [Token]), Fault>
+pub(crate) fn condition<'t>(
+    globals: &[Global],
+    tokens: &'t [Token],
+) -> Result<(Expr, &'t [Token]), Fault>
     requires { length globals.now < 2 ^ 32 }
     ensures read { Gives (λ x. (x.0, x.1.now)) result (condition_at globals.now tokens.now) }
     ensures shorter { IfOk result (λ x. length x.1.now < length tokens.now) }

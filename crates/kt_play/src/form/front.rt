@@ -5,11 +5,10 @@ ghost use Rattle.std.specs.Char.{is_ascii_digit};
 ghost use Rattle.kt_play.specs.Pieces.{Mark, is_blank, begins_word, is_word_byte, is_character, decimal_value, has_leading_zero, is_decimal, sign_continues, first_is};
 ghost use Rattle.kt_play.specs.Reading.{Gives, as_token, checked, word_at, number_at, escape_at, character_at, single_sign, other_sign_at, sign_at, piece_at};
 
-use std::alloc::Global;
-
 use super::fault::Fault;
 use super::token::{Sign, Token};
 use sqlite_items::Items;
+use std::alloc::Global;
 
 fn is_blank(byte: u8) -> bool
     ensures { result ≡ is_blank byte }
@@ -177,7 +176,10 @@ fn digit_length(bytes: &[u8]) -> usize
     ensures value { result ≡ prefix_len is_ascii_digit bytes.now }
     ensures within { result ≤ length bytes.now }
 {
-    bytes.iter().take_while(|byte| byte.is_ascii_digit()).count()
+    bytes
+        .iter()
+        .take_while(|byte| byte.is_ascii_digit())
+        .count()
 }
 
 fn begins_with_word_byte(bytes: &[u8]) -> bool

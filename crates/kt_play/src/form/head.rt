@@ -3,11 +3,10 @@
 ghost use Rattle.std.specs.Prelude.{◌≡◌, ◌<◌, ◌^◌, length, IfOk};
 ghost use Rattle.kt_play.specs.Reading.{Gives, put_at, assign_at, worded_at, head_at};
 
-use kt_meaning::tree::{Expr, Global};
-
 use super::expr::{behind_assign, behind_semicolon, condition, ended, parenthesised, place};
 use super::fault::Fault;
 use super::token::Token;
+use kt_meaning::tree::{Expr, Global};
 
 /// A statement, as far as its opening brace where it has one.
 #[derive(Clone, Copy, PartialEq, Eq, Debug)]
@@ -30,7 +29,11 @@ fn put<'t>(globals: &[Global], tokens: &'t [Token]) -> Result<(Head, &'t [Token]
 }
 
 #[tactic(auto, unfolding(crate::specs::Reading::assign_at))]
-fn assign<'t>(globals: &[Global], name: &[u8], tokens: &'t [Token]) -> Result<(Head, &'t [Token]), Fault>
+fn assign<'t>(
+    globals: &[Global],
+    name: &[u8],
+    tokens: &'t [Token],
+) -> Result<(Head, &'t [Token]), Fault>
     requires { length globals.now < 2 ^ 32 }
     ensures read { Gives (λ x. (x.0, x.1.now)) result (assign_at globals.now name.now tokens.now) }
     ensures shorter { IfOk result (λ x. length x.1.now < length tokens.now) }
@@ -42,7 +45,11 @@ fn assign<'t>(globals: &[Global], name: &[u8], tokens: &'t [Token]) -> Result<(H
 
 /// The head of a statement that begins with this word.
 #[tactic(auto, unfolding(crate::specs::Reading::worded_at))]
-fn worded<'t>(globals: &[Global], word: &[u8], rest: &'t [Token]) -> Result<(Head, &'t [Token]), Fault>
+fn worded<'t>(
+    globals: &[Global],
+    word: &[u8],
+    rest: &'t [Token],
+) -> Result<(Head, &'t [Token]), Fault>
     requires { length globals.now < 2 ^ 32 }
     ensures read { Gives (λ x. (x.0, x.1.now)) result (worded_at globals.now word.now rest.now) }
     ensures shorter { IfOk result (λ x. length x.1.now < length rest.now) }
@@ -64,7 +71,10 @@ fn worded<'t>(globals: &[Global], word: &[u8], rest: &'t [Token]) -> Result<(Hea
 }
 
 #[tactic(auto, unfolding(crate::specs::Reading::head_at))]
-pub(crate) fn statement_head<'t>(globals: &[Global], tokens: &'t [Token]) -> Result<(Head, &'t [Token]), Fault>
+pub(crate) fn statement_head<'t>(
+    globals: &[Global],
+    tokens: &'t [Token],
+) -> Result<(Head, &'t [Token]), Fault>
     requires { length globals.now < 2 ^ 32 }
     ensures read { Gives (λ x. (x.0, x.1.now)) result (head_at globals.now tokens.now) }
     ensures shorter { IfOk result (λ x. length x.1.now < length tokens.now) }

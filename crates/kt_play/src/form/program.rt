@@ -4,12 +4,11 @@ ghost use Rattle.std.specs.Prelude.{◌≡◌, ◌≤◌, length, IfOk, MatchOpt
 ghost use Rattle.kt_play.specs.Form.{Source, source_of, IsProgramText};
 ghost use Rattle.kt_play.specs.Reading.{WhenOutside};
 
-use kt_meaning::tree::Program;
-use std::alloc::{AllocError, Global};
-
 use super::fault::Fault;
 use super::scan::tokens;
 use super::source::source;
+use kt_meaning::tree::Program;
+use std::alloc::{AllocError, Global};
 
 /// The greatest number of bytes of a file.
 const MOST: usize = 262_144;

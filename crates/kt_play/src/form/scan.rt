@@ -5,11 +5,10 @@ ghost use Rattle.kt_play.specs.Pieces.{HasTokens};
 ghost use Rattle.kt_play.specs.declared.form.token.Token.{Token};
 ghost use Rattle.kt_play.specs.Reading.{WhenOutside};
 
-use std::alloc::Global;
-
 use super::fault::Fault;
 use super::front::piece;
 use super::token::Token;
+use std::alloc::Global;
 
 fn push(tokens: &mut Vec<Token>, token: Option<Token>) -> Result<(), Fault>
     ensures pushed { OnOk result (tokens.new.items ≡ tokens.old.items ++ option_to_list token) }

@@ -8,14 +8,13 @@ ghost use Rattle.kt_meaning.specs.Tree.{block_of};
 ghost use Rattle.kt_play.specs.Form.{is_reserved, source_of};
 ghost use Rattle.kt_play.specs.Reading.{Gives, is_new, initial_at, named_global_at, global_at, named_main_at, behind_name, behind_void, body_at, main_at, source_at};
 
-use kt_meaning::tree::{Global, Program, Stmt};
-use sqlite_items::Items;
-use std::alloc::Global as Memory;
-
 use super::block::block;
 use super::expr::{behind_brace, behind_close, behind_open, position};
 use super::fault::Fault;
 use super::token::{Sign, Token};
+use kt_meaning::tree::{Global, Program, Stmt};
+use sqlite_items::Items;
+use std::alloc::Global as Memory;
 
 const RESERVED: [&[u8]; 41] = [
     b"char",
@@ -90,15 +89,24 @@ fn initial(tokens: &[Token]) -> Result<(Option<i32>, &[Token]), Fault>
 {
     match tokens {
         [Token::Mark(Sign::Semicolon), rest @ ..] => Ok((None, rest)),
-        [Token::Mark(Sign::Assign), Token::Number(value), Token::Mark(Sign::Semicolon), rest @ ..] => {
-            Ok((Some(*value), rest))
-        }
+        [
+            Token::Mark(Sign::Assign),
+            Token::Number(value),
+            Token::Mark(Sign::Semicolon),
+            rest @ ..,
+        ] => { Ok((Some(*value), rest)) }
         _ => Err(Fault::OutsideForm),
     }
 }
 
 #[tactic(auto)]
-fn named_global<'t>(alloc: Memory, earlier: &[Global], int: &[u8], name: &[u8], tokens: &'t [Token]) -> Result<(Global, &'t [Token]), Fault>
+fn named_global<'t>(
+    alloc: Memory,
+    earlier: &[Global],
+    int: &[u8],
+    name: &[u8],
+    tokens: &'t [Token],
+) -> Result<(Global, &'t [Token]), Fault>
     ensures read { Gives (λ x. (x.0, x.1.now)) result (named_global_at earlier.now int.now name.now tokens.now) }
     ensures shorter { IfOk result (λ x. length x.1.now < length tokens.now) }
 {
@@ -112,7 +120,11 @@ fn named_global<'t>(alloc: Memory, earlier: &[Global], int: &[u8], name: &[u8], 
 
 /// The declaration of a global with another name than the earlier ones.
 #[tactic(auto, unfolding(crate::specs::Reading::global_at))]
-fn global<'t>(alloc: Memory, earlier: &[Global], tokens: &'t [Token]) -> Result<(Global, &'t [Token]), Fault>
+fn global<'t>(
+    alloc: Memory,
+    earlier: &[Global],
+    tokens: &'t [Token],
+) -> Result<(Global, &'t [Token]), Fault>
     ensures read { Gives (λ x. (x.0, x.1.now)) result (global_at earlier.now tokens.now) }
     ensures shorter { IfOk result (λ x. length x.1.now < length tokens.now) }
 {
@@ -128,7 +140,11 @@ fn named_main<'t>(int: &[u8], main: &[u8], rest: &'t [Token]) -> Option<&'t [Tok
     ensures read { option_map (λ x. x.now) result ≡ named_main_at int.now main.now rest.now }
     ensures shorter { IfSome result (λ x. length x.now ≤ length rest.now) }
 {
-    if int == b"int".as_slice() && main == b"main".as_slice() { Some(rest) } else { None }
+    if int == b"int".as_slice() && main == b"main".as_slice() {
+        Some(rest)
+    } else {
+        None
+    }
 }
 
 /// The tokens behind `int main`.
@@ -138,7 +154,11 @@ fn behind_name(tokens: &[Token]) -> Option<&[Token]>
     ensures shorter { IfSome result (λ x. length x.now < length tokens.now) }
 {
     match tokens {
-        [Token::Word(int), Token::Word(main), rest @ ..] => named_main(int.as_slice(), main.as_slice(), rest),
+        [Token::Word(int), Token::Word(main), rest @ ..] => named_main(
+            int.as_slice(),
+            main.as_slice(),
+            rest,
+        ),
         _ => None,
     }
 }
@@ -149,7 +169,11 @@ fn behind_void(tokens: &[Token]) -> &[Token]
 {
     match tokens {
         [Token::Word(void), rest @ ..] => {
-            if void.as_slice() == b"void".as_slice() { rest } else { tokens }
+            if void.as_slice() == b"void".as_slice() {
+                rest
+            } else {
+                tokens
+            }
         }
         _ => tokens,
     }
@@ -162,7 +186,11 @@ fn body(alloc: Memory, globals: &[Global], tokens: &[Token]) -> Result<Items<Stm
     ensures { Gives block_of result (body_at globals.now tokens.now) }
 {
     let (body, rest) = block(alloc, globals, 49, tokens)?;
-    if rest.len() == 0 { Ok(body) } else { Err(Fault::OutsideForm) }
+    if rest.len() == 0 {
+        Ok(body)
+    } else {
+        Err(Fault::OutsideForm)
+    }
 }
 
 /// What stands behind `int main`.

@@ -17,4 +17,5 @@ returns g c =
       no_memory = promise.no_memory _ _ _ _ a;
       write_fault = promise.write_fault _ _ _ _ a;
       same_files = c.respond.ensures.same;
-      input_unread = refl }
+      input_unread = refl;
+    }

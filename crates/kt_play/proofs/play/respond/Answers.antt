@@ -6,5 +6,9 @@ returns-in-Ok-clause-answer g c = inl (record { source = _; accepted = c.in-Ok.e
 
 pub returns-in-Err-clause-answer : goal.returns-in-Err-clause-answer
 returns-in-Err-clause-answer g c = inr (record {
-    why = c.in-Err.refusal; cause = c.in-Err.ensures.cause; words = λ h. (let e = c.in-Err.ensures.words h in cc);
-    refused = c.refuse.ensures; unwritten = refl })
+  why = c.in-Err.refusal;
+  cause = c.in-Err.ensures.cause;
+  words = λ h. (let e = c.in-Err.ensures.words h in cc);
+  refused = c.refuse.ensures;
+  unwritten = refl;
+})
