@@ -3,6 +3,7 @@ pub mod Cells
 pub mod Complete
 pub mod Counts
 pub mod Defined
+pub mod Fixed
 pub mod Growth
 pub mod Keeps
 pub mod Keyed

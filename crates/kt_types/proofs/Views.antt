@@ -35,3 +35,13 @@ module _ (a : Inside) (t : Table) (view : table_of a ≡ t) (kept : KeepsTable a
 
   pub undeclared : (s : ℕ) → length t.structs ≤ s → fields_of t s ≡ None
   undeclared s le = subst (λ u. fields_of u s ≡ None) view (kept.declared s (subst (λ u. length u.structs ≤ s) (sym view) le))
+
+  pub name-at : (s : ℕ) (name : Vec ℕ) (i : Option ℕ) → Some (name, i) ≡ slice_get a.structs.entries s → slice_get t.structs s ≡ Some name.items
+  name-at s name i e =
+      ap (λ u. slice_get u.structs s) (sym view) ∙ slice_get-map (λ k. k.items) (keys a.structs) s
+      ∙ ap (option_map (λ k. k.items)) (slice_get-map (λ c. c.0) a.structs.entries s ∙ ap (option_map (λ c. c.0)) (sym e))
+
+  pub no-name : (s : ℕ) → None ≡ slice_get a.structs.entries s → slice_get t.structs s ≡ None
+  no-name s e =
+      ap (λ u. slice_get u.structs s) (sym view) ∙ slice_get-map (λ k. k.items) (keys a.structs) s
+      ∙ ap (option_map (λ k. k.items)) (slice_get-map (λ c. c.0) a.structs.entries s ∙ ap (option_map (λ c. c.0)) (sym e))

@@ -1,5 +1,5 @@
 -- The layout of types: the scalar cells of each type, as a list (ISO/IEC 9899:2011, 6.2.5 and 6.7.2.1).
-use Rattle.std.specs.Prelude.{◌≡◌, ℕ, suc, zero, ◌+◌, ◌*◌, ◌<◌, ◌≤◌, ◌==◌, List, [], ◌∷◌, ◌++◌, length, slice_get, position, Option, None, Some, option_and_then, unwrap_or, if◌then◌else◌, IsSome}
+use Rattle.std.specs.Prelude.{◌≡◌, ℕ, suc, zero, ◌+◌, ◌*◌, ◌<◌, ◌≤◌, ◌==◌, List, [], ◌∷◌, ◌++◌, length, slice_get, position, Option, None, Some, option_and_then, unwrap_or, if◌then◌else◌, IsSome, MatchOption}
 use Rattle.std.specs.Cmp.Lexicographic.{pointwise}
 use Rattle.std.specs.Option.{option_map}
 use Rattle.kt_types.specs.Table.{Table, Definition, HasDistinctNames, fields_of}
@@ -44,6 +44,14 @@ struct_cells types (d ∷ earlier) s =
 -- the layout of the type at a place: its cells; none where the type is incomplete, or the table has no such place
 unfoldable pub layout : Table → ℕ → Option (List Ty)
 layout t p = place_cells (struct_cells t.types t.defined) t.types (length t.types) p
+
+-- the cells of a struct, once it is defined: those of its fields
+abbrev pub struct_layout : Table → ℕ → Option (List Ty)
+struct_layout t s = option_and_then (joined (layout t)) (fields_of t s)
+
+-- the layout of the type at a place is that of its kind, by the layouts of the struct, the element and the fields that it names
+abbrev pub IsFixed : Table → ℕ → Type 0
+IsFixed t p = MatchOption (slice_get t.types p) (layout t p ≡ None) (λ ty. layout t p ≡ type_cells (struct_layout t) (layout t) ty)
 
 -- the type at the place is complete
 abbrev pub IsComplete : Table → ℕ → Type 0

@@ -1,11 +1,11 @@
 //! The table of types.
-ghost use Rattle.std.specs.Prelude.{◌≡◌, ℕ, ◌+◌, ◌*◌, ◌^◌, ◌<◌, ◌≤◌, ◌↔◌, List, length, slice_get, option_and_then, IsTrue, IsSome, IfOk, OnOk, OnErr, MatchOption, IfErr, slice_index, Some, None};
+ghost use Rattle.std.specs.Prelude.{◌≡◌, ℕ, ◌+◌, ◌*◌, ◌^◌, ◌<◌, ◌≤◌, ◌↔◌, List, length, slice_get, option_and_then, IsTrue, IsSome, IfSome, IfOk, OnOk, OnErr, MatchOption, IfErr, slice_index, Some, None};
 ghost use Rattle.std.specs.List.Sorted.{IsNonDecreasing};
 ghost use Rattle.std.specs.Bool.{MatchBool};
 ghost use Rattle.std.specs.Option.{option_copied};
 ghost use Rattle.indexmap.specs.IndexMap.{index_map_len, set_value_at};
 ghost use Rattle.kt_types.specs.Kept.{AreNames, AreStarts, IsCounted, IsLaidOut, IsPart};
-ghost use Rattle.kt_types.specs.Layout.{cells, layout, joined, cell_limit, cells_before, field_named, CanDefine, IsComplete, IsFaulty, IsFitting, NamesPlaces};
+ghost use Rattle.kt_types.specs.Layout.{cells, layout, joined, cell_limit, cells_before, field_named, CanDefine, IsComplete, IsFaulty, IsFitting, IsFixed, NamesPlaces};
 ghost use Rattle.kt_types.specs.Table.{Table, scalar_table, fields_of, with_type, with_struct, with_definition, HasDistinctNames, HasType, HasStruct};
 
 use crate::faults::TypeFault;
@@ -144,9 +144,11 @@ impl TypeTable {
         Ok(())
     }
 
-    /// The type at the place, if the table has such a place.
+    /// The type at the place, if the table has such a place. What it names is of the table too.
     pub fn get(&self, ty: u32) -> Option<Ty>
-        ensures { result ≡ slice_get self.now.types ty }
+        ensures found { result ≡ slice_get self.now.types ty }
+        ensures places { IfSome result (NamesPlaces self.now) }
+        ensures fits { IfSome result (IsFitting self.now) }
     {
         match self.types.get_index(ty as usize) {
             Some((kind, _)) => Some(*kind),
@@ -178,9 +180,10 @@ impl TypeTable {
         }
     }
 
-    /// The fields of the struct, in the order of their declarations, if it is defined.
+    /// The fields of the struct, in the order of their declarations, if it is defined. Their types are complete.
     pub fn fields(&self, s: u32) -> Option<&[FieldDecl]>
-        ensures { option_copied result ≡ fields_of self.now s }
+        ensures found { option_copied result ≡ fields_of self.now s }
+        ensures complete { IfSome result (λ fields. IsSome (joined (layout self.now) fields.now)) }
     {
         match self.layout_of(s) {
             Some(layout) => Some(layout.fields.as_slice()),
@@ -333,6 +336,14 @@ impl TypeTable {
         }
         Ok(Some((starts, cells)))
     }
+}
+
+/// The law of the layout. The layout of a type is that of its kind, by the layouts of the types that it names: a scalar
+/// gives itself, a struct joins its fields' cells, an array repeats its element's.
+pub fn layout_law(table: &TypeTable, ty: u32)
+    ensures { IsFixed table.now ty }
+{
+    let _ = &table.types;
 }
 
 // Notes the place of a struct's definition.
