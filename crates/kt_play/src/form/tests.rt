@@ -118,7 +118,7 @@ fn fifty_braces(rt: HostRuntime) -> Result<(), Fail> {
 fn longest_file(rt: HostRuntime) -> Result<(), Fail> {
     for (length, is_program) in [(262_144, true), (262_145, false)] {
         let mut text = b"int main(){}".to_vec(rt.alloc())?;
-        while text.len() < length {
+        for _ in text.len()..length {
             text.push(b' ')?;
         }
         let program = read_program(rt.alloc(), text.as_slice())?;
