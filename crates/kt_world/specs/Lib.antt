@@ -1,0 +1,4 @@
+pub mod Job
+pub mod World
+pub mod Update
+pub mod Turn

@@ -1,0 +1,4 @@
+//! What a job is, and its worlds: turns, updates, marks and ends.
+#![tactic(auto)]
+
+pub mod mark;
