@@ -136,7 +136,7 @@ abbrev pub request : Job → List ℕ → Shared → Shared
 request job [] s = s
 request job (n ∷ after) s =
     if is_some (version_at job (s.version + 1)) && nat_le n s.turns then
-      marked (mark.Ask s.turns (s.requests + 1)) (record s { phase = Asked; after = after; requests = s.requests + 1 })
+    marked (mark.Ask s.turns (s.requests + 1)) (record s { phase = Asked; after = after; requests = s.requests + 1 })
     else s
 
 abbrev pub asked : Job → Phase → Shared → Shared
@@ -158,9 +158,9 @@ before_turn job w = ongoing (on_shared (spent job)) (ongoing (λ u. on_shared (a
 abbrev pub after_act : {X : Type 0} → Engine X → Job → World X → World X
 after_act e job w =
     before_turn job
-      (ongoing (λ u. closed_up e job u.shared.phase u)
-        (ongoing (λ u. all_back u.shared.phase u)
-          (ongoing (λ u. main_there u.shared.phase u) (end_marked w))))
+    (ongoing (λ u. closed_up e job u.shared.phase u)
+    (ongoing (λ u. all_back u.shared.phase u)
+    (ongoing (λ u. main_there u.shared.phase u) (end_marked w))))
 
 -- ---- turns and worlds
 
@@ -188,10 +188,20 @@ first_globals (Some version) = first_memory version.globals
 -- the world before the first turn: `main` stands at its entry
 abbrev pub first_world : {X : Type 0} → Engine X → Job → World X
 first_world e job = before_turn job (record {
-    shared = record {
-      version = 0; memory = first_globals (version_at job 0); kept = []; phase = Run; after = job.after; requests = 0;
-      output = []; turns = 0; marks = []; ended = None };
-    threads = record { state = e.entry 0; mode = Normal; standing = Live } ∷ [] })
+  shared = record {
+    version = 0;
+    memory = first_globals (version_at job 0);
+    kept = [];
+    phase = Run;
+    after = job.after;
+    requests = 0;
+    output = [];
+    turns = 0;
+    marks = [];
+    ended = None;
+  };
+  threads = record { state = e.entry 0; mode = Normal; standing = Live } ∷ [];
+})
 
 -- a turn of each thread of the list, in order
 abbrev pub world_from : {X : Type 0} → Engine X → Job → World X → List ℕ → World X

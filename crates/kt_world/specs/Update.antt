@@ -1,5 +1,5 @@
 -- A closing: what refuses it, and the update (whole-program update as in Kitsune; OOPSLA 2012, section 3).
-use Rattle.std.specs.Prelude.{◌≡◌, ℕ, suc, ◌+◌, ℤ, pos, List, [], ◌∷◌, map, length, Option, Some, None, unwrap_or, option_and_then, option_map, is_none, ◌++◌, if◌then◌else◌, slice_get, bytes_eq}
+use Rattle.std.specs.Prelude.{ℕ, ◌+◌, ℤ, pos, List, [], ◌∷◌, map, Option, Some, None, unwrap_or, option_and_then, option_map, is_none, ◌++◌, if◌then◌else◌, slice_get, bytes_eq}
 use Rattle.std.specs.List.{position}
 use Rattle.kt_meaning.specs.declared.acts.Act.{Act}
 use Rattle.kt_meaning.specs.declared.acts.Act.TheVariants.{Tick, Load, Store, Print, Point, Automigrate}
@@ -9,13 +9,12 @@ use Rattle.kt_meaning.specs.declared.acts.Reply.TheVariants.{Done}
 use Rattle.kt_meaning.specs.declared.tree.Global.{Global}
 use Rattle.kt_meaning.specs.Steps.{Step, Quiet, Acts, Traps, Ends}
 use Rattle.kt_meaning.specs.Tree.{Version}
-use Rattle.kt_world.specs.declared.mark.Closed.{Closed}
 use Rattle.kt_world.specs.declared.mark.Closed.TheVariants as closed
 use Rattle.kt_world.specs.declared.mark.Mark.{Mark}
 use Rattle.kt_world.specs.declared.mark.Mark.TheVariants.{Close}
 use Rattle.kt_world.specs.declared.mark.Phase.TheVariants.{Run, Main}
 use Rattle.kt_world.specs.Job.{Job, version_at}
-use Rattle.kt_world.specs.World.{Engine, Live, Parked, Shared, Thread, World}
+use Rattle.kt_world.specs.World.{Engine, Live, Shared, Thread, World}
 
 -- ---- globals
 
@@ -112,18 +111,21 @@ marked m s = record s { marks = s.marks ++ m ∷ [] }
 -- the update: the new version's globals with their initial values, and the old values kept aside
 abbrev pub updated : {X : Type 0} → Engine X → Version → Version → World X → World X
 updated e old new w = let s = w.shared in record {
-    shared = marked (Close s.turns s.requests (closed.Ok 0)) (record s {
-      version = s.version + 1;
-      memory = first_memory new.globals;
-      kept = kept_values old.globals s.memory new.globals;
-      phase = Main });
-    threads = map (restarted e s.version old new) w.threads }
+  shared = marked (Close s.turns s.requests (closed.Ok 0)) (record s {
+    version = s.version + 1;
+    memory = first_memory new.globals;
+    kept = kept_values old.globals s.memory new.globals;
+    phase = Main;
+  });
+  threads = map (restarted e s.version old new) w.threads;
+}
 
 -- a refusal: memory and code stay, and the threads go on past their points
 abbrev pub refused : {X : Type 0} → Engine X → ℕ → World X → World X
 refused e t w = let s = w.shared in record {
-    shared = marked (Close s.turns s.requests (closed.Point t)) (record s { phase = Run });
-    threads = map (let_go e s.version) w.threads }
+  shared = marked (Close s.turns s.requests (closed.Point t)) (record s { phase = Run });
+  threads = map (let_go e s.version) w.threads;
+}
 
 abbrev pub decided : {X : Type 0} → Engine X → Version → Version → Option ℕ → World X → World X
 decided e old new None w = updated e old new w
