@@ -2,3 +2,4 @@ pub mod Job
 pub mod World
 pub mod Update
 pub mod Turn
+pub mod Plain
