@@ -4,3 +4,4 @@ pub mod Update
 pub mod Turn
 pub mod SameThreads
 pub mod Same
+pub mod Plain

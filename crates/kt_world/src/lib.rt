@@ -1,4 +1,5 @@
 //! What a job is, and its worlds: turns, updates, marks and ends.
 #![tactic(auto)]
 
+pub mod job;
 pub mod mark;
