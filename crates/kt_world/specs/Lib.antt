@@ -2,6 +2,10 @@ pub mod Job
 pub mod World
 pub mod Update
 pub mod Turn
+pub mod Laws
+pub mod SharedLaws
 pub mod SameThreads
 pub mod Same
+pub mod WellFormed
+pub mod WellFormedLaws
 pub mod Plain

@@ -17,6 +17,7 @@ use Rattle.kt_world.specs.Job.{Job, version_at}
 use Rattle.kt_world.specs.World.{Engine, Live, Parked, Shared, Thread, World}
 use Rattle.kt_world.specs.Update.{value_at, next_point, updating_from, let_go, restarted, lost_point, decided, closed_between, closing}
 use Rattle.kt_world.specs.Turn.{going_on, at_point, migrated, act_effect, effect, act_of, act, counted, ongoing, with_mark, end_marked, main_is_normal, all_normal, all_parked, main_there, all_back, closed_up, request, asked, spent, on_shared, before_turn, after_act, is_turnable, is_enabled, turn, first_globals, first_world, world_from, MayTurn, MayTurnAll}
+use Rattle.kt_world.specs.SharedLaws.{with_mark-keeps, asked-keeps, spent-keeps}
 pub use Rattle.kt_world.specs.SameThreads.{IsSameThread, AreSameThreads, DoesSameActs-refl}
 use Rattle.kt_world.specs.SameThreads.{AreSameFound, AreSameThreads-trans, passed-same, next_point-same, slice_get-same, slice_set-same, all_normal-same, all_parked-same, main_is_normal-same, is_live-same, map-same}
 
@@ -37,30 +38,6 @@ IsSameWorld-trans e f g w v u h i = record {
   threads = AreSameThreads-trans (e.settle w.shared.version) (f.settle v.shared.version) (g.settle u.shared.version)
       w.threads v.threads u.threads h.threads i.threads;
 }
-
--- ---- the version in force
-
--- neither a mark nor a request changes the version in force, and the budget doesn't
-either-version : (b : Bool) (s r : Shared) → r.version ≡ s.version → (if b then r else s).version ≡ s.version
-either-version true s r h = h
-either-version false s r h = refl
-
-with_mark-version : (o : Option End) (s : Shared) → (with_mark o s).version ≡ s.version
-with_mark-version None s = refl
-with_mark-version (Some how) s = refl
-
-request-version : (job : Job) (after : List ℕ) (s : Shared) → (request job after s).version ≡ s.version
-request-version job [] s = refl
-request-version job (n ∷ after) s = either-version (is_some (version_at job (s.version + 1)) && nat_le n s.turns) s _ refl
-
-asked-version : (job : Job) (phase : Phase) (s : Shared) → (asked job phase s).version ≡ s.version
-asked-version job Run s = request-version job s.after s
-asked-version job Asked s = refl
-asked-version job Main s = refl
-asked-version job Others s = refl
-
-spent-version : (job : Job) (s : Shared) → (spent job s).version ≡ s.version
-spent-version job s = either-version (s.turns == job.budget) s _ refl
 
 module _ {X Y : Type 0} (e : Engine X) (f : Engine Y) where
   -- ---- an update
@@ -284,13 +261,13 @@ module _ {X Y : Type 0} (e : Engine X) (f : Engine Y) where
   counted-same = on_shared-same (λ s. record s { turns = s.turns + 1 }) (λ s. refl)
 
   end_marked-same : (w : World X) (v : World Y) → IsSameWorld e f w v → IsSameWorld e f (end_marked w) (end_marked v)
-  end_marked-same = on_shared-same (λ s. with_mark s.ended s) (λ s. with_mark-version s.ended s)
+  end_marked-same = on_shared-same (λ s. with_mark s.ended s) (λ s. (with_mark-keeps s.ended s).version)
 
   before_turn-same : (job : Job) (w : World X) (v : World Y) → IsSameWorld e f w v → IsSameWorld e f (before_turn job w) (before_turn job v)
   before_turn-same job w v h =
-      ongoing-same (on_shared (spent job)) (on_shared (spent job)) (on_shared-same (spent job) (spent-version job)) _ _
+      ongoing-same (on_shared (spent job)) (on_shared (spent job)) (on_shared-same (spent job) (λ s. (spent-keeps job s).version)) _ _
       (ongoing-same (on_shared (λ s. asked job s.phase s)) (on_shared (λ s. asked job s.phase s))
-      (on_shared-same (λ s. asked job s.phase s) (λ s. asked-version job s.phase s)) w v h)
+      (on_shared-same (λ s. asked job s.phase s) (λ s. (asked-keeps job s.phase s).version)) w v h)
 
   pub after_act-same : (job : Job) → AreSameEngines e f job → (w : World X) (v : World Y) → IsSameWorld e f w v →
       IsSameWorld e f (after_act e job w) (after_act f job v)
