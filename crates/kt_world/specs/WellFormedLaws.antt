@@ -1,5 +1,5 @@
 -- The first world is well formed, and each turn leaves a world well formed.
-use Rattle.std.specs.Prelude.{◌≡◌, ℕ, suc, zero, ◌+◌, ◌<◌, ◌≤◌, ◌==◌, ℤ, List, [], ◌∷◌, ◌++◌, map, length, Option, Some, None, unwrap_or, option_and_then, is_none, Bool, true, false, if◌then◌else◌, slice_get, slice_index_or, bytes_eq, refl}
+use Rattle.std.specs.Prelude.{◌≡◌, ℕ, suc, zero, ◌+◌, ◌<◌, ◌≤◌, ◌==◌, ℤ, List, [], ◌∷◌, length, Option, Some, None, option_and_then, is_none, Bool, true, false, if◌then◌else◌, slice_get, slice_index_or, bytes_eq, refl}
 use Rattle.std.specs.List.{All}
 use Rattle.std.proofs.Common.{arith, sym, subst, ap, ◌∙◌}
 use Rattle.std.proofs.lemmas.List.{length-set, length-map}
@@ -18,8 +18,8 @@ use Rattle.kt_world.specs.declared.mark.Phase.{Phase}
 use Rattle.kt_world.specs.declared.mark.Phase.TheVariants.{Run, Asked, Main, Others}
 use Rattle.kt_world.specs.Job.{Job, version_at}
 use Rattle.kt_world.specs.World.{Engine, Live, Parked, Shared, Thread, World}
-use Rattle.kt_world.specs.Update.{first_value, first_memory, kept_value, kept_values, placed, point_named, point_of, new_point, next_point, lost_point, let_go, updating_from, restarted, updated, refused, decided, closed_between, closing}
-use Rattle.kt_world.specs.Turn.{with_thread, going_on, at_point, migrated, act_effect, effect, act_of, act, counted, ongoing, with_mark, end_marked, main_is_normal, all_normal, all_parked, main_there, all_back, closed_up, asked, spent, on_shared, before_turn, after_act, turn, first_globals, first_world, world_from}
+use Rattle.kt_world.specs.Update.{first_value, kept_value, kept_values, placed, point_named, point_of, new_point, next_point, lost_point, let_go, updating_from, restarted, updated, refused, decided, closed_between, closing}
+use Rattle.kt_world.specs.Turn.{with_thread, at_point, migrated, act_effect, effect, act_of, act, ongoing, with_mark, main_is_normal, all_normal, all_parked, main_there, all_back, closed_up, asked, spent, on_shared, before_turn, after_act, turn, first_globals, first_world, world_from}
 use Rattle.kt_world.specs.SharedLaws.{KeepsMemory, with_mark-keeps, asked-keeps, spent-keeps}
 use Rattle.kt_world.specs.WellFormed.{globals_of, points_of, IsOnTheWay, IsWellFormed}
 
@@ -36,7 +36,7 @@ point_named-below points name p is = (position-Some (λ point. bytes_eq point na
 next_point-below : {X : Type 0} (old new : Version) (s : Step X) (p : ℕ) → next_point old new s ≡ Some p → p < length new.points
 next_point-below old new s =
     and_then-below (new_point old new) (length new.points)
-      (λ q. and_then-below (point_named new.points) (length new.points) (point_named-below new.points) (slice_get old.points q)) (point_of s)
+    (λ q. and_then-below (point_named new.points) (length new.points) (point_named-below new.points) (slice_get old.points q)) (point_of s)
 
 updating_from-on_the_way : (points : List (List ℕ)) (o : Option ℕ) → ((p : ℕ) → o ≡ Some p → p < length points) →
     IsOnTheWay points (updating_from o)
@@ -55,19 +55,23 @@ module _ {X : Type 0} (job : Job) where
   kept-well_formed : (s r : Shared) (l : List (Thread X)) → KeepsMemory s r → IsWellFormed job (record { shared = s; threads = l }) →
       IsWellFormed job (record { shared = r; threads = l })
   kept-well_formed s r l same h = record {
-      version = λ some. subst (λ n. n < length job.versions) (sym same.version) (h.version some);
-      memory = ap length same.memory ∙ h.memory ∙ ap (λ n. length (globals_of (version_at job n))) (sym same.version);
-      kept = subst (λ n. length r.kept ≤ length (globals_of (version_at job n))) (sym same.version)
+    version = λ some. subst (λ n. n < length job.versions) (sym same.version) (h.version some);
+    memory = ap length same.memory ∙ h.memory ∙ ap (λ n. length (globals_of (version_at job n))) (sym same.version);
+    kept = subst (λ n. length r.kept ≤ length (globals_of (version_at job n))) (sym same.version)
         (subst (λ k. length k ≤ length (globals_of (version_at job s.version))) (sym same.kept) h.kept);
-      alone = h.alone;
-      points = subst (λ n. All (λ (th : Thread X). IsOnTheWay (points_of (version_at job n)) th.mode) l) (sym same.version) h.points }
+    alone = h.alone;
+    points = subst (λ n. All (λ (th : Thread X). IsOnTheWay (points_of (version_at job n)) th.mode) l) (sym same.version) h.points;
+  }
 
   set-well_formed : (w : World X) (t : ℕ) (th : Thread X) → IsWellFormed job w →
       IsOnTheWay (points_of (version_at job w.shared.version)) th.mode → IsWellFormed job (with_thread w t th)
   set-well_formed w t th h on = record {
-      version = h.version; memory = h.memory; kept = h.kept;
-      alone = length-set w.threads t th ∙ h.alone;
-      points = All-set (λ (th : Thread X). IsOnTheWay (points_of (version_at job w.shared.version)) th.mode) w.threads t th on h.points }
+    version = h.version;
+    memory = h.memory;
+    kept = h.kept;
+    alone = length-set w.threads t th ∙ h.alone;
+    points = All-set (λ (th : Thread X). IsOnTheWay (points_of (version_at job w.shared.version)) th.mode) w.threads t th on h.points;
+  }
 
   if-well_formed : (b : Bool) (w v : World X) → IsWellFormed job w → IsWellFormed job v → IsWellFormed job (if b then w else v)
   if-well_formed true w v h k = h
@@ -80,7 +84,7 @@ module _ {X : Type 0} (job : Job) where
     at_point-well_formed : (p : ℕ) (x : X) (mode : Mode) (phase : Phase) → IsWellFormed job (at_point w t th p x mode phase)
     at_point-well_formed p x (Updating q) phase =
         if-well_formed (q == p) _ _ (set-well_formed w t (record th { state = x; mode = Normal }) h tt)
-          (set-well_formed w t (record th { state = x }) h on)
+        (set-well_formed w t (record th { state = x }) h on)
     at_point-well_formed p x Normal Run = set-well_formed w t (record th { state = x }) h on
     at_point-well_formed p x Normal Asked = set-well_formed w t (record th { standing = Parked }) h on
     at_point-well_formed p x Normal Main = set-well_formed w t (record th { state = x }) h on
@@ -91,8 +95,12 @@ module _ {X : Type 0} (job : Job) where
     migrated-well_formed x (Updating q) =
         let k = set-well_formed w t (record th { state = x }) h on in
         record {
-          version = h.version; memory = length-placed w.shared.kept w.shared.memory ∙ h.memory; kept = omega arith;
-          alone = k.alone; points = k.points }
+          version = h.version;
+          memory = length-placed w.shared.kept w.shared.memory ∙ h.memory;
+          kept = omega arith;
+          alone = k.alone;
+          points = k.points;
+        }
 
     act_effect-well_formed : (a : Act) (go : Reply → X) → IsWellFormed job (act_effect w t th a go)
     act_effect-well_formed Tick go = set-well_formed w t (record th { state = _ }) h on
@@ -100,8 +108,12 @@ module _ {X : Type 0} (job : Job) where
     act_effect-well_formed (Store g v) go =
         let k = set-well_formed w t (record th { state = go Done }) h on in
         record {
-          version = h.version; memory = length-set w.shared.memory g v ∙ h.memory; kept = h.kept;
-          alone = k.alone; points = k.points }
+          version = h.version;
+          memory = length-set w.shared.memory g v ∙ h.memory;
+          kept = h.kept;
+          alone = k.alone;
+          points = k.points;
+        }
     act_effect-well_formed (Print b) go =
         let k = set-well_formed w t (record th { state = go Done }) h on in
         record { version = h.version; memory = h.memory; kept = h.kept; alone = k.alone; points = k.points }
@@ -112,9 +124,19 @@ module _ {X : Type 0} (job : Job) where
     effect-well_formed (Quiet x) = h
     effect-well_formed (Acts a go) = act_effect-well_formed a go
     effect-well_formed (Traps cause) = record {
-        version = h.version; memory = h.memory; kept = h.kept; alone = h.alone; points = h.points }
+      version = h.version;
+      memory = h.memory;
+      kept = h.kept;
+      alone = h.alone;
+      points = h.points;
+    }
     effect-well_formed (Ends v) = record {
-        version = h.version; memory = h.memory; kept = h.kept; alone = h.alone; points = h.points }
+      version = h.version;
+      memory = h.memory;
+      kept = h.kept;
+      alone = h.alone;
+      points = h.points;
+    }
 
   -- ---- a point in the list of threads, and changes of what is shared
 
@@ -136,7 +158,7 @@ module _ {X : Type 0} (job : Job) where
   main_there-well_formed Asked w h = h
   main_there-well_formed Main w h =
       if-well_formed (main_is_normal w.threads) _ w
-        (record { version = h.version; memory = h.memory; kept = h.kept; alone = h.alone; points = h.points }) h
+      (record { version = h.version; memory = h.memory; kept = h.kept; alone = h.alone; points = h.points }) h
   main_there-well_formed Others w h = h
 
   all_back-well_formed : (phase : Phase) (w : World X) → IsWellFormed job w → IsWellFormed job (all_back phase w)
@@ -145,13 +167,13 @@ module _ {X : Type 0} (job : Job) where
   all_back-well_formed Main w h = h
   all_back-well_formed Others w h =
       if-well_formed (all_normal w.threads) _ w
-        (record { version = h.version; memory = h.memory; kept = h.kept; alone = h.alone; points = h.points }) h
+      (record { version = h.version; memory = h.memory; kept = h.kept; alone = h.alone; points = h.points }) h
 
   before_turn-well_formed : (w : World X) → IsWellFormed job w → IsWellFormed job (before_turn job w)
   before_turn-well_formed w h =
       ongoing-well_formed (on_shared (spent job)) (on_shared-well_formed (spent job) (spent-keeps job)) _
-        (ongoing-well_formed (on_shared (λ s. asked job s.phase s))
-          (on_shared-well_formed (λ s. asked job s.phase s) (λ s. asked-keeps job s.phase s)) w h)
+      (ongoing-well_formed (on_shared (λ s. asked job s.phase s))
+      (on_shared-well_formed (λ s. asked job s.phase s) (λ s. asked-keeps job s.phase s)) w h)
 
   -- ---- an update, and turns
 
@@ -161,29 +183,33 @@ module _ {X : Type 0} (job : Job) where
     act_of-well_formed w t None is h = h
     act_of-well_formed w t (Some th) is h =
         effect-well_formed w h t th (found-on_the_way (points_of (version_at job w.shared.version)) w.threads t th h.points is)
-          (e.settle w.shared.version th.state)
+        (e.settle w.shared.version th.state)
 
     updated-well_formed : (old new : Version) (w : World X) → version_at job (w.shared.version + 1) ≡ Some new → IsWellFormed job w →
         IsWellFormed job (updated e old new w)
     updated-well_formed old new w is h = record {
-        version = λ some. slice_get_within job.versions (w.shared.version + 1) new is;
-        memory = length-map new.globals first_value ∙ ap (λ o. length (globals_of o)) (sym is);
-        kept =
+      version = λ some. slice_get_within job.versions (w.shared.version + 1) new is;
+      memory = length-map new.globals first_value ∙ ap (λ o. length (globals_of o)) (sym is);
+      kept =
           let k : length (kept_values old.globals w.shared.memory new.globals) ≡ length (globals_of (version_at job (w.shared.version + 1))) =
-            length-map new.globals (kept_value old.globals w.shared.memory) ∙ ap (λ o. length (globals_of o)) (sym is) in
+          length-map new.globals (kept_value old.globals w.shared.memory) ∙ ap (λ o. length (globals_of o)) (sym is) in
           omega arith;
-        alone = length-map w.threads (restarted e w.shared.version old new) ∙ h.alone;
-        points = All-map (λ (th : Thread X). IsOnTheWay (points_of (version_at job (w.shared.version + 1))) th.mode)
+      alone = length-map w.threads (restarted e w.shared.version old new) ∙ h.alone;
+      points = All-map (λ (th : Thread X). IsOnTheWay (points_of (version_at job (w.shared.version + 1))) th.mode)
           (restarted e w.shared.version old new) w.threads
           (λ k d in_range. subst (λ o. IsOnTheWay (points_of o) (restarted e w.shared.version old new (slice_index_or w.threads k d)).mode) (sym is)
-            (updating_from-on_the_way new.points _ (next_point-below old new _))) }
+          (updating_from-on_the_way new.points _ (next_point-below old new _)));
+    }
 
     refused-well_formed : (t : ℕ) (w : World X) → IsWellFormed job w → IsWellFormed job (refused e t w)
     refused-well_formed t w h = record {
-        version = h.version; memory = h.memory; kept = h.kept;
-        alone = length-map w.threads (let_go e w.shared.version) ∙ h.alone;
-        points = All-map (λ (th : Thread X). IsOnTheWay (points_of (version_at job w.shared.version)) th.mode)
-          (let_go e w.shared.version) w.threads h.points }
+      version = h.version;
+      memory = h.memory;
+      kept = h.kept;
+      alone = length-map w.threads (let_go e w.shared.version) ∙ h.alone;
+      points = All-map (λ (th : Thread X). IsOnTheWay (points_of (version_at job w.shared.version)) th.mode)
+          (let_go e w.shared.version) w.threads h.points;
+    }
 
     decided-well_formed : (old new : Version) (lost : Option ℕ) (w : World X) → version_at job (w.shared.version + 1) ≡ Some new →
         IsWellFormed job w → IsWellFormed job (decided e old new lost w)
@@ -201,24 +227,24 @@ module _ {X : Type 0} (job : Job) where
     closed_up-well_formed Run w h = h
     closed_up-well_formed Asked w h =
         if-well_formed (all_parked w.threads) (closing e job w) w
-          (closed_between-well_formed (version_at job w.shared.version) (version_at job (w.shared.version + 1)) w refl h) h
+        (closed_between-well_formed (version_at job w.shared.version) (version_at job (w.shared.version + 1)) w refl h) h
     closed_up-well_formed Main w h = h
     closed_up-well_formed Others w h = h
 
     after_act-well_formed : (w : World X) → IsWellFormed job w → IsWellFormed job (after_act e job w)
     after_act-well_formed w h =
         before_turn-well_formed _
-          (ongoing-well_formed (λ u. closed_up e job u.shared.phase u) (λ u. closed_up-well_formed u.shared.phase u) _
-            (ongoing-well_formed (λ u. all_back u.shared.phase u) (λ u. all_back-well_formed u.shared.phase u) _
-              (ongoing-well_formed (λ u. main_there u.shared.phase u) (λ u. main_there-well_formed u.shared.phase u) _
-                (on_shared-well_formed (λ s. with_mark s.ended s) (λ s. with_mark-keeps s.ended s) w h))))
+        (ongoing-well_formed (λ u. closed_up e job u.shared.phase u) (λ u. closed_up-well_formed u.shared.phase u) _
+        (ongoing-well_formed (λ u. all_back u.shared.phase u) (λ u. all_back-well_formed u.shared.phase u) _
+        (ongoing-well_formed (λ u. main_there u.shared.phase u) (λ u. main_there-well_formed u.shared.phase u) _
+        (on_shared-well_formed (λ s. with_mark s.ended s) (λ s. with_mark-keeps s.ended s) w h))))
 
     pub turn-well_formed : (w : World X) (t : ℕ) → IsWellFormed job w → IsWellFormed job (turn e job w t)
     turn-well_formed w t h =
         after_act-well_formed _
-          (on_shared-well_formed (λ s. record s { turns = s.turns + 1 })
-            (λ s. record { version = refl; memory = refl; kept = refl }) (act e w t)
-            (act_of-well_formed w t (slice_get w.threads t) refl h))
+        (on_shared-well_formed (λ s. record s { turns = s.turns + 1 })
+        (λ s. record { version = refl; memory = refl; kept = refl }) (act e w t)
+        (act_of-well_formed w t (slice_get w.threads t) refl h))
 
     length-first_globals : (o : Option Version) → length (first_globals o) ≡ length (globals_of o)
     length-first_globals None = refl
@@ -233,17 +259,27 @@ module _ {X : Type 0} (job : Job) where
     entered-well_formed : (s : Shared) → (x : X) → s.version ≡ 0 → s.memory ≡ first_globals (version_at job 0) → s.kept ≡ [] →
         IsWellFormed job (record { shared = s; threads = record { state = x; mode = Normal; standing = Live } ∷ [] })
     entered-well_formed s x version memory kept = record {
-        version = λ some. subst (λ n. n < length job.versions) (sym version) some;
-        memory = ap length memory ∙ length-first_globals (version_at job 0) ∙ ap (λ n. length (globals_of (version_at job n))) (sym version);
-        kept = subst (λ k. length k ≤ length (globals_of (version_at job s.version))) (sym kept) (omega arith);
-        alone = refl;
-        points = one-on_the_way (points_of (version_at job s.version)) (record { state = x; mode = Normal; standing = Live }) tt }
+      version = λ some. subst (λ n. n < length job.versions) (sym version) some;
+      memory = ap length memory ∙ length-first_globals (version_at job 0) ∙ ap (λ n. length (globals_of (version_at job n))) (sym version);
+      kept = subst (λ k. length k ≤ length (globals_of (version_at job s.version))) (sym kept) (omega arith);
+      alone = refl;
+      points = one-on_the_way (points_of (version_at job s.version)) (record { state = x; mode = Normal; standing = Live }) tt;
+    }
 
     pub first_world-well_formed : IsWellFormed job (first_world e job)
     first_world-well_formed =
         before_turn-well_formed _ (entered-well_formed (record {
-            version = 0; memory = first_globals (version_at job 0); kept = []; phase = Run; after = job.after; requests = 0;
-            output = []; turns = 0; marks = []; ended = None }) (e.entry 0) refl refl refl)
+          version = 0;
+          memory = first_globals (version_at job 0);
+          kept = [];
+          phase = Run;
+          after = job.after;
+          requests = 0;
+          output = [];
+          turns = 0;
+          marks = [];
+          ended = None;
+        }) (e.entry 0) refl refl refl)
 
     pub world_from-well_formed : (turns : List ℕ) (w : World X) → IsWellFormed job w → IsWellFormed job (world_from e job w turns)
     world_from-well_formed [] w h = h
