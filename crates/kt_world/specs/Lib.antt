@@ -6,6 +6,9 @@ pub mod Laws
 pub mod SharedLaws
 pub mod SameThreads
 pub mod Same
+pub mod Kept
 pub mod WellFormed
 pub mod WellFormedLaws
+pub mod Typed
+pub mod TypedLaws
 pub mod Plain

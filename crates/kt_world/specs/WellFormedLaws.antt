@@ -19,8 +19,9 @@ use Rattle.kt_world.specs.declared.mark.Phase.TheVariants.{Run, Asked, Main, Oth
 use Rattle.kt_world.specs.Job.{Job, version_at}
 use Rattle.kt_world.specs.World.{Engine, Live, Parked, Shared, Thread, World}
 use Rattle.kt_world.specs.Update.{first_value, kept_value, kept_values, placed, point_named, point_of, new_point, next_point, lost_point, let_go, updating_from, restarted, updated, refused, decided, closed_between, closing}
-use Rattle.kt_world.specs.Turn.{with_thread, at_point, migrated, act_effect, effect, act_of, act, ongoing, with_mark, main_is_normal, all_normal, all_parked, main_there, all_back, closed_up, asked, spent, on_shared, before_turn, after_act, turn, first_globals, first_world, world_from}
-use Rattle.kt_world.specs.SharedLaws.{KeepsMemory, with_mark-keeps, asked-keeps, spent-keeps}
+use Rattle.kt_world.specs.Turn.{with_thread, going_on, at_point, migrated, act_effect, effect, act_of, act, ongoing, with_mark, main_is_normal, all_normal, all_parked, main_there, all_back, closed_up, asked, spent, on_shared, before_turn, after_act, turn, first_globals, first_world, world_from}
+use Rattle.kt_world.specs.SharedLaws.{KeepsMemory}
+use Rattle.kt_world.specs.Kept.{IsKept, before_turn-keeps}
 use Rattle.kt_world.specs.WellFormed.{globals_of, points_of, IsOnTheWay, IsWellFormed}
 
 -- ---- points
@@ -73,18 +74,17 @@ module _ {X : Type 0} (job : Job) where
     points = All-set (λ (th : Thread X). IsOnTheWay (points_of (version_at job w.shared.version)) th.mode) w.threads t th on h.points;
   }
 
-  if-well_formed : (b : Bool) (w v : World X) → IsWellFormed job w → IsWellFormed job v → IsWellFormed job (if b then w else v)
-  if-well_formed true w v h k = h
-  if-well_formed false w v h k = k
-
   -- ---- an act
 
   module _ (w : World X) (h : IsWellFormed job w) (t : ℕ) (th : Thread X)
       (on : IsOnTheWay (points_of (version_at job w.shared.version)) th.mode) where
+    arrived-well_formed : (x : X) (there : Bool) →
+        IsWellFormed job (if there then with_thread w t (record th { state = x; mode = Normal }) else going_on w t th w.shared x)
+    arrived-well_formed x true = set-well_formed w t (record th { state = x; mode = Normal }) h tt
+    arrived-well_formed x false = set-well_formed w t (record th { state = x }) h on
+
     at_point-well_formed : (p : ℕ) (x : X) (mode : Mode) (phase : Phase) → IsWellFormed job (at_point w t th p x mode phase)
-    at_point-well_formed p x (Updating q) phase =
-        if-well_formed (q == p) _ _ (set-well_formed w t (record th { state = x; mode = Normal }) h tt)
-        (set-well_formed w t (record th { state = x }) h on)
+    at_point-well_formed p x (Updating q) phase = arrived-well_formed x (q == p)
     at_point-well_formed p x Normal Run = set-well_formed w t (record th { state = x }) h on
     at_point-well_formed p x Normal Asked = set-well_formed w t (record th { standing = Parked }) h on
     at_point-well_formed p x Normal Main = set-well_formed w t (record th { state = x }) h on
@@ -138,53 +138,14 @@ module _ {X : Type 0} (job : Job) where
       points = h.points;
     }
 
-  -- ---- a point in the list of threads, and changes of what is shared
-
   found-on_the_way : (points : List (List ℕ)) (l : List (Thread X)) (t : ℕ) (th : Thread X) →
       All (λ (a : Thread X). IsOnTheWay points a.mode) l → slice_get l t ≡ Some th → IsOnTheWay points th.mode
   found-on_the_way points l t th all is =
       subst (λ (a : Thread X). IsOnTheWay points a.mode) (get_or_from_slice_get l t th th is) (all t th (slice_get_within l t th is))
 
-  on_shared-well_formed : (change : Shared → Shared) → ((s : Shared) → KeepsMemory s (change s)) → (w : World X) →
-      IsWellFormed job w → IsWellFormed job (on_shared change w)
-  on_shared-well_formed change keeps w h = kept-well_formed w.shared (change w.shared) w.threads (keeps w.shared) h
-
-  ongoing-well_formed : (go : World X → World X) → ((w : World X) → IsWellFormed job w → IsWellFormed job (go w)) → (w : World X) →
-      IsWellFormed job w → IsWellFormed job (ongoing go w)
-  ongoing-well_formed go one w h = if-well_formed (is_none w.shared.ended) (go w) w (one w h) h
-
-  main_there-well_formed : (phase : Phase) (w : World X) → IsWellFormed job w → IsWellFormed job (main_there phase w)
-  main_there-well_formed Run w h = h
-  main_there-well_formed Asked w h = h
-  main_there-well_formed Main w h =
-      if-well_formed (main_is_normal w.threads) _ w
-      (record { version = h.version; memory = h.memory; kept = h.kept; alone = h.alone; points = h.points }) h
-  main_there-well_formed Others w h = h
-
-  all_back-well_formed : (phase : Phase) (w : World X) → IsWellFormed job w → IsWellFormed job (all_back phase w)
-  all_back-well_formed Run w h = h
-  all_back-well_formed Asked w h = h
-  all_back-well_formed Main w h = h
-  all_back-well_formed Others w h =
-      if-well_formed (all_normal w.threads) _ w
-      (record { version = h.version; memory = h.memory; kept = h.kept; alone = h.alone; points = h.points }) h
-
-  before_turn-well_formed : (w : World X) → IsWellFormed job w → IsWellFormed job (before_turn job w)
-  before_turn-well_formed w h =
-      ongoing-well_formed (on_shared (spent job)) (on_shared-well_formed (spent job) (spent-keeps job)) _
-      (ongoing-well_formed (on_shared (λ s. asked job s.phase s))
-      (on_shared-well_formed (λ s. asked job s.phase s) (λ s. asked-keeps job s.phase s)) w h)
-
-  -- ---- an update, and turns
+  -- ---- updates and turns
 
   module _ (e : Engine X) where
-    act_of-well_formed : (w : World X) (t : ℕ) (o : Option (Thread X)) → slice_get w.threads t ≡ o → IsWellFormed job w →
-        IsWellFormed job (act_of e w t o)
-    act_of-well_formed w t None is h = h
-    act_of-well_formed w t (Some th) is h =
-        effect-well_formed w h t th (found-on_the_way (points_of (version_at job w.shared.version)) w.threads t th h.points is)
-        (e.settle w.shared.version th.state)
-
     updated-well_formed : (old new : Version) (w : World X) → version_at job (w.shared.version + 1) ≡ Some new → IsWellFormed job w →
         IsWellFormed job (updated e old new w)
     updated-well_formed old new w is h = record {
@@ -211,41 +172,6 @@ module _ {X : Type 0} (job : Job) where
           (let_go e w.shared.version) w.threads h.points;
     }
 
-    decided-well_formed : (old new : Version) (lost : Option ℕ) (w : World X) → version_at job (w.shared.version + 1) ≡ Some new →
-        IsWellFormed job w → IsWellFormed job (decided e old new lost w)
-    decided-well_formed old new None w is h = updated-well_formed old new w is h
-    decided-well_formed old new (Some t) w is h = refused-well_formed t w h
-
-    closed_between-well_formed : (old new : Option Version) (w : World X) → version_at job (w.shared.version + 1) ≡ new →
-        IsWellFormed job w → IsWellFormed job (closed_between e old new w)
-    closed_between-well_formed None new w is h = h
-    closed_between-well_formed (Some old) None w is h = h
-    closed_between-well_formed (Some old) (Some new) w is h =
-        decided-well_formed old new (lost_point e w.shared.version old new 0 w.threads) w is h
-
-    closed_up-well_formed : (phase : Phase) (w : World X) → IsWellFormed job w → IsWellFormed job (closed_up e job phase w)
-    closed_up-well_formed Run w h = h
-    closed_up-well_formed Asked w h =
-        if-well_formed (all_parked w.threads) (closing e job w) w
-        (closed_between-well_formed (version_at job w.shared.version) (version_at job (w.shared.version + 1)) w refl h) h
-    closed_up-well_formed Main w h = h
-    closed_up-well_formed Others w h = h
-
-    after_act-well_formed : (w : World X) → IsWellFormed job w → IsWellFormed job (after_act e job w)
-    after_act-well_formed w h =
-        before_turn-well_formed _
-        (ongoing-well_formed (λ u. closed_up e job u.shared.phase u) (λ u. closed_up-well_formed u.shared.phase u) _
-        (ongoing-well_formed (λ u. all_back u.shared.phase u) (λ u. all_back-well_formed u.shared.phase u) _
-        (ongoing-well_formed (λ u. main_there u.shared.phase u) (λ u. main_there-well_formed u.shared.phase u) _
-        (on_shared-well_formed (λ s. with_mark s.ended s) (λ s. with_mark-keeps s.ended s) w h))))
-
-    pub turn-well_formed : (w : World X) (t : ℕ) → IsWellFormed job w → IsWellFormed job (turn e job w t)
-    turn-well_formed w t h =
-        after_act-well_formed _
-        (on_shared-well_formed (λ s. record s { turns = s.turns + 1 })
-        (λ s. record { version = refl; memory = refl; kept = refl }) (act e w t)
-        (act_of-well_formed w t (slice_get w.threads t) refl h))
-
     length-first_globals : (o : Option Version) → length (first_globals o) ≡ length (globals_of o)
     length-first_globals None = refl
     length-first_globals (Some version) = length-map version.globals first_value
@@ -266,21 +192,18 @@ module _ {X : Type 0} (job : Job) where
       points = one-on_the_way (points_of (version_at job s.version)) (record { state = x; mode = Normal; standing = Live }) tt;
     }
 
+    pub IsWellFormed-kept : IsKept e job (IsWellFormed job)
+    IsWellFormed-kept = record {
+      shared = kept-well_formed;
+      act = λ w t th is h.
+        effect-well_formed w h t th (found-on_the_way (points_of (version_at job w.shared.version)) w.threads t th h.points is)
+          (e.settle w.shared.version th.state);
+      update = updated-well_formed;
+      refusal = refused-well_formed;
+    }
+
     pub first_world-well_formed : IsWellFormed job (first_world e job)
     first_world-well_formed =
-        before_turn-well_formed _ (entered-well_formed (record {
-          version = 0;
-          memory = first_globals (version_at job 0);
-          kept = [];
-          phase = Run;
-          after = job.after;
-          requests = 0;
-          output = [];
-          turns = 0;
-          marks = [];
-          ended = None;
-        }) (e.entry 0) refl refl refl)
-
-    pub world_from-well_formed : (turns : List ℕ) (w : World X) → IsWellFormed job w → IsWellFormed job (world_from e job w turns)
-    world_from-well_formed [] w h = h
-    world_from-well_formed (t ∷ turns) w h = world_from-well_formed turns (turn e job w t) (turn-well_formed w t h)
+        before_turn-keeps e job (IsWellFormed job) IsWellFormed-kept _ (entered-well_formed (record {
+          version = 0; memory = first_globals (version_at job 0); kept = []; phase = Run; after = job.after; requests = 0;
+          output = []; turns = 0; marks = []; ended = None }) (e.entry 0) refl refl refl)

@@ -1,7 +1,9 @@
 use Rattle.kt_world.specs.Laws.{followed, main-alone, world-next}
 use Rattle.kt_world.specs.Plain.{job_of}
 use Rattle.kt_world.specs.Turn.{tree_engine, world}
-use Rattle.kt_world.specs.WellFormedLaws.{first_world-well_formed, world_from-well_formed}
+use Rattle.kt_world.specs.Kept.{world_from-keeps}
+use Rattle.kt_world.specs.WellFormed.{IsWellFormed}
+use Rattle.kt_world.specs.WellFormedLaws.{IsWellFormed-kept, first_world-well_formed}
 use Rattle.kt_world.proofs.laws.world_law.Goals as goal
 
 pub returns : goal.returns
@@ -12,5 +14,5 @@ returns c =
       followed = followed j turns;
       next = λ t may. world-next j turns t;
       main_alone = λ t may on_its_way. main-alone (world j turns) t on_its_way ((followed j turns t).0 may).1;
-      well_formed = λ may. world_from-well_formed j (tree_engine j) turns _ (first_world-well_formed j (tree_engine j));
+      well_formed = λ may. world_from-keeps (tree_engine j) j (IsWellFormed j) (IsWellFormed-kept j (tree_engine j)) turns _ (first_world-well_formed j (tree_engine j));
     }
