@@ -11,9 +11,9 @@ use Rattle.kt_world.specs.SharedLaws.{KeepsMemory, with_mark-keeps, asked-keeps,
 
 pub record IsKept {X : Type 0} (e : Engine X) (job : Job) (P : World X → Type 0) : Type 0 where
   pub shared : (s r : Shared) (l : List (Thread X)) → KeepsMemory s r → P (record { shared = s; threads = l }) →
-    P (record { shared = r; threads = l })
+      P (record { shared = r; threads = l })
   pub act : (w : World X) (t : ℕ) (th : Thread X) → slice_get w.threads t ≡ Some th → P w →
-    P (effect w t th (e.settle w.shared.version th.state))
+      P (effect w t th (e.settle w.shared.version th.state))
   pub update : (old new : Version) (w : World X) → version_at job (w.shared.version + 1) ≡ Some new → P w → P (updated e old new w)
   pub refusal : (t : ℕ) (w : World X) → P w → P (refused e t w)
 
@@ -33,7 +33,7 @@ module _ {X : Type 0} (e : Engine X) (job : Job) (P : World X → Type 0) (kept 
   main_there-keeps Asked w h = h
   main_there-keeps Main w h =
       if-keeps (main_is_normal w.threads) _ w
-        (kept.shared w.shared _ w.threads (record { version = refl; memory = refl; kept = refl }) h) h
+      (kept.shared w.shared _ w.threads (record { version = refl; memory = refl; kept = refl }) h) h
   main_there-keeps Others w h = h
 
   all_back-keeps : (phase : Phase) (w : World X) → P w → P (all_back phase w)
@@ -42,7 +42,7 @@ module _ {X : Type 0} (e : Engine X) (job : Job) (P : World X → Type 0) (kept 
   all_back-keeps Main w h = h
   all_back-keeps Others w h =
       if-keeps (all_normal w.threads) _ w
-        (kept.shared w.shared _ w.threads (record { version = refl; memory = refl; kept = refl }) h) h
+      (kept.shared w.shared _ w.threads (record { version = refl; memory = refl; kept = refl }) h) h
 
   decided-keeps : (old new : Version) (lost : Option ℕ) (w : World X) → version_at job (w.shared.version + 1) ≡ Some new → P w →
       P (decided e old new lost w)
@@ -59,23 +59,23 @@ module _ {X : Type 0} (e : Engine X) (job : Job) (P : World X → Type 0) (kept 
   closed_up-keeps Run w h = h
   closed_up-keeps Asked w h =
       if-keeps (all_parked w.threads) (closing e job w) w
-        (closed_between-keeps (version_at job w.shared.version) (version_at job (w.shared.version + 1)) w refl h) h
+      (closed_between-keeps (version_at job w.shared.version) (version_at job (w.shared.version + 1)) w refl h) h
   closed_up-keeps Main w h = h
   closed_up-keeps Others w h = h
 
   pub before_turn-keeps : (w : World X) → P w → P (before_turn job w)
   before_turn-keeps w h =
       ongoing-keeps (on_shared (spent job)) (on_shared-keeps (spent job) (spent-keeps job)) _
-        (ongoing-keeps (on_shared (λ s. asked job s.phase s))
-          (on_shared-keeps (λ s. asked job s.phase s) (λ s. asked-keeps job s.phase s)) w h)
+      (ongoing-keeps (on_shared (λ s. asked job s.phase s))
+      (on_shared-keeps (λ s. asked job s.phase s) (λ s. asked-keeps job s.phase s)) w h)
 
   after_act-keeps : (w : World X) → P w → P (after_act e job w)
   after_act-keeps w h =
       before_turn-keeps _
-        (ongoing-keeps (λ u. closed_up e job u.shared.phase u) (λ u. closed_up-keeps u.shared.phase u) _
-          (ongoing-keeps (λ u. all_back u.shared.phase u) (λ u. all_back-keeps u.shared.phase u) _
-            (ongoing-keeps (λ u. main_there u.shared.phase u) (λ u. main_there-keeps u.shared.phase u) _
-              (on_shared-keeps (λ s. with_mark s.ended s) (λ s. with_mark-keeps s.ended s) w h))))
+      (ongoing-keeps (λ u. closed_up e job u.shared.phase u) (λ u. closed_up-keeps u.shared.phase u) _
+      (ongoing-keeps (λ u. all_back u.shared.phase u) (λ u. all_back-keeps u.shared.phase u) _
+      (ongoing-keeps (λ u. main_there u.shared.phase u) (λ u. main_there-keeps u.shared.phase u) _
+      (on_shared-keeps (λ s. with_mark s.ended s) (λ s. with_mark-keeps s.ended s) w h))))
 
   act_of-keeps : (w : World X) (t : ℕ) (o : Option (Thread X)) → slice_get w.threads t ≡ o → P w → P (act_of e w t o)
   act_of-keeps w t None is h = h
@@ -84,8 +84,8 @@ module _ {X : Type 0} (e : Engine X) (job : Job) (P : World X → Type 0) (kept 
   pub turn-keeps : (w : World X) (t : ℕ) → P w → P (turn e job w t)
   turn-keeps w t h =
       after_act-keeps _
-        (on_shared-keeps (λ s. record s { turns = s.turns + 1 }) (λ s. record { version = refl; memory = refl; kept = refl }) (act e w t)
-          (act_of-keeps w t (slice_get w.threads t) refl h))
+      (on_shared-keeps (λ s. record s { turns = s.turns + 1 }) (λ s. record { version = refl; memory = refl; kept = refl }) (act e w t)
+      (act_of-keeps w t (slice_get w.threads t) refl h))
 
   pub world_from-keeps : (turns : List ℕ) (w : World X) → P w → P (world_from e job w turns)
   world_from-keeps [] w h = h

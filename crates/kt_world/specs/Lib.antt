@@ -11,4 +11,5 @@ pub mod WellFormed
 pub mod WellFormedLaws
 pub mod Typed
 pub mod TypedLaws
+pub mod TypedWorlds
 pub mod Plain

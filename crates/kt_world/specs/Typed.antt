@@ -1,6 +1,6 @@
 -- A version whose numbers are in range, and threads of it: each number is an `int`, each character a byte, each global
 -- and each point one of the version. What is checked of a program, and what its thread keeps.
-use Rattle.std.specs.Prelude.{◌≡◌, ℕ, ◌<◌, ℤ, List, [], ◌∷◌, Option, Some, None, length, true}
+use Rattle.std.specs.Prelude.{◌≡◌, ℕ, ◌<◌, ℤ, [], ◌∷◌, Option, Some, None, length, true}
 use Rattle.std.specs.List.{All}
 use Rattle.kt_meaning.specs.declared.acts.Act.{Act}
 use Rattle.kt_meaning.specs.declared.acts.Act.TheVariants.{Tick, Load, Store, Print, Point, Automigrate}
@@ -13,8 +13,10 @@ use Rattle.kt_meaning.specs.declared.tree.Expr.TheVariants.{Single, Binary}
 use Rattle.kt_meaning.specs.Operators.{fits_int}
 use Rattle.kt_meaning.specs.Tree.{Statement, Assigning, Putting, Returning, Choosing, Looping, Reaching, Migrating, Block, Empty, Then, Version}
 use Rattle.kt_meaning.specs.Thread.{Part, Run, Do, Eval, Have, Right, Left, Assigns, Puts, Returns, Chooses, Loops, Work}
-use Rattle.kt_world.specs.Job.{Job}
+use Rattle.kt_world.specs.Job.{Job, version_at}
+use Rattle.kt_world.specs.World.{Thread, World}
 use Rattle.kt_world.specs.Update.{first_memory}
+use Rattle.kt_world.specs.WellFormed.{globals_of, points_of}
 
 abbrev pub IsInt : ℤ → Type 0
 IsInt v = fits_int v ≡ true
@@ -89,3 +91,10 @@ pub record IsTypedVersion (version : Version) : Type 0 where
 
 pub record IsTypedJob (job : Job) : Type 0 where
   pub versions : All IsTypedVersion job.versions
+
+-- memory and the kept values are numbers of `int`, and each thread is one of the version in force
+pub record IsTypedWorld (job : Job) (w : World Work) : Type 0 where
+  pub memory : All IsInt w.shared.memory
+  pub kept : All IsIntIfSome w.shared.kept
+  pub threads : All (λ (th : Thread Work). IsTypedWork (length (globals_of (version_at job w.shared.version)))
+      (length (points_of (version_at job w.shared.version))) th.state) w.threads

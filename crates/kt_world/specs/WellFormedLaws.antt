@@ -1,9 +1,9 @@
 -- The first world is well formed, and each turn leaves a world well formed.
-use Rattle.std.specs.Prelude.{◌≡◌, ℕ, suc, zero, ◌+◌, ◌<◌, ◌≤◌, ◌==◌, ℤ, List, [], ◌∷◌, length, Option, Some, None, option_and_then, is_none, Bool, true, false, if◌then◌else◌, slice_get, slice_index_or, bytes_eq, refl}
+use Rattle.std.specs.Prelude.{◌≡◌, ℕ, suc, ◌+◌, ◌<◌, ◌≤◌, ◌==◌, ℤ, List, [], ◌∷◌, length, Option, Some, None, option_and_then, Bool, true, false, if◌then◌else◌, slice_get, slice_index_or, bytes_eq, refl}
 use Rattle.std.specs.List.{All}
 use Rattle.std.proofs.Common.{arith, sym, subst, ap, ◌∙◌}
 use Rattle.std.proofs.lemmas.List.{length-set, length-map}
-use Rattle.std.proofs.lemmas.List.Elements.{All-set, All-map}
+use Rattle.std.proofs.lemmas.List.Elements.{All-nil, All-cons, All-set, All-map}
 use Rattle.std.proofs.lemmas.List.Quantifiers.{position-Some}
 use Rattle.std.proofs.lemmas.Option.{slice_get_within, get_or_from_slice_get}
 use Rattle.kt_meaning.specs.declared.acts.Act.{Act}
@@ -18,8 +18,8 @@ use Rattle.kt_world.specs.declared.mark.Phase.{Phase}
 use Rattle.kt_world.specs.declared.mark.Phase.TheVariants.{Run, Asked, Main, Others}
 use Rattle.kt_world.specs.Job.{Job, version_at}
 use Rattle.kt_world.specs.World.{Engine, Live, Parked, Shared, Thread, World}
-use Rattle.kt_world.specs.Update.{first_value, kept_value, kept_values, placed, point_named, point_of, new_point, next_point, lost_point, let_go, updating_from, restarted, updated, refused, decided, closed_between, closing}
-use Rattle.kt_world.specs.Turn.{with_thread, going_on, at_point, migrated, act_effect, effect, act_of, act, ongoing, with_mark, main_is_normal, all_normal, all_parked, main_there, all_back, closed_up, asked, spent, on_shared, before_turn, after_act, turn, first_globals, first_world, world_from}
+use Rattle.kt_world.specs.Update.{first_value, kept_value, kept_values, placed, point_named, point_of, new_point, next_point, let_go, updating_from, restarted, updated, refused}
+use Rattle.kt_world.specs.Turn.{with_thread, going_on, at_point, migrated, act_effect, effect, first_globals, first_world}
 use Rattle.kt_world.specs.SharedLaws.{KeepsMemory}
 use Rattle.kt_world.specs.Kept.{IsKept, before_turn-keeps}
 use Rattle.kt_world.specs.WellFormed.{globals_of, points_of, IsOnTheWay, IsWellFormed}
@@ -176,11 +176,6 @@ module _ {X : Type 0} (job : Job) where
     length-first_globals None = refl
     length-first_globals (Some version) = length-map version.globals first_value
 
-    one-on_the_way : (points : List (List ℕ)) (th : Thread X) → IsOnTheWay points th.mode → (k : ℕ) (d : Thread X) → k < 1 →
-        IsOnTheWay points (slice_index_or (th ∷ []) k d).mode
-    one-on_the_way points th on zero d in_range = on
-    one-on_the_way points th on (suc k) d in_range = absurd (omega arith)
-
     -- `main` alone, on its way nowhere, with the first values of the globals in memory
     entered-well_formed : (s : Shared) → (x : X) → s.version ≡ 0 → s.memory ≡ first_globals (version_at job 0) → s.kept ≡ [] →
         IsWellFormed job (record { shared = s; threads = record { state = x; mode = Normal; standing = Live } ∷ [] })
@@ -189,14 +184,16 @@ module _ {X : Type 0} (job : Job) where
       memory = ap length memory ∙ length-first_globals (version_at job 0) ∙ ap (λ n. length (globals_of (version_at job n))) (sym version);
       kept = subst (λ k. length k ≤ length (globals_of (version_at job s.version))) (sym kept) (omega arith);
       alone = refl;
-      points = one-on_the_way (points_of (version_at job s.version)) (record { state = x; mode = Normal; standing = Live }) tt;
+      points = All-cons (λ (th : Thread X). IsOnTheWay (points_of (version_at job s.version)) th.mode)
+          (record { state = x; mode = Normal; standing = Live }) [] tt
+          (All-nil (λ (th : Thread X). IsOnTheWay (points_of (version_at job s.version)) th.mode));
     }
 
     pub IsWellFormed-kept : IsKept e job (IsWellFormed job)
     IsWellFormed-kept = record {
       shared = kept-well_formed;
       act = λ w t th is h.
-        effect-well_formed w h t th (found-on_the_way (points_of (version_at job w.shared.version)) w.threads t th h.points is)
+          effect-well_formed w h t th (found-on_the_way (points_of (version_at job w.shared.version)) w.threads t th h.points is)
           (e.settle w.shared.version th.state);
       update = updated-well_formed;
       refusal = refused-well_formed;
@@ -205,5 +202,14 @@ module _ {X : Type 0} (job : Job) where
     pub first_world-well_formed : IsWellFormed job (first_world e job)
     first_world-well_formed =
         before_turn-keeps e job (IsWellFormed job) IsWellFormed-kept _ (entered-well_formed (record {
-          version = 0; memory = first_globals (version_at job 0); kept = []; phase = Run; after = job.after; requests = 0;
-          output = []; turns = 0; marks = []; ended = None }) (e.entry 0) refl refl refl)
+          version = 0;
+          memory = first_globals (version_at job 0);
+          kept = [];
+          phase = Run;
+          after = job.after;
+          requests = 0;
+          output = [];
+          turns = 0;
+          marks = [];
+          ended = None;
+        }) (e.entry 0) refl refl refl)
