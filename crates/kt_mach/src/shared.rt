@@ -1,6 +1,11 @@
 //! What threads share: the version in force, its globals, the phase of the update, the output and the journal's marks.
 
-use kt_world::mark::{End, Mark, Phase};
+ghost use Rattle.std.specs.Prelude.{◌≡◌, is_some};
+ghost use Rattle.kt_world.specs.Job.{version_at};
+ghost use Rattle.kt_world.specs.Plain.{job_of};
+
+use kt_world::job::Job;
+use kt_world::mark::{Closed, End, Mark, Phase};
 use std::alloc::{AllocError, Global};
 use std::marker::Model;
 
@@ -33,9 +38,9 @@ impl Model for Shared {
 }
 
 impl Shared {
-    ghost use Rattle.std.specs.Prelude.{◌≡◌, ◌+◌, ◌<◌, ◌∷◌, ◌++◌, [], ℕ, IfOk, None, Option, OnOk, Some, length, vec_len};
-    ghost use Rattle.kt_world.specs.Job as plain;
-    ghost use Rattle.kt_world.specs.Turn.{asked, spent, with_mark};
+    ghost use Rattle.std.specs.Prelude.{◌≡◌, ◌+◌, ◌<◌, ◌^◌, [], None, OnOk, Some, drop, length, vec_len};
+    ghost use Rattle.kt_world.specs.Plain.{job_of};
+    ghost use Rattle.kt_world.specs.Turn.{asked, request, spent, with_mark};
     ghost use Rattle.kt_world.specs.Update.{marked};
 
     /// Before the first turn of a run: these values of the globals, and requests after these numbers of turns.
@@ -96,4 +101,116 @@ impl Shared {
             }),
         }
     }
+
+    /// One turn more.
+    pub fn count_turn(&mut self)
+        requires { self.old.turns < 2 ^ 31 }
+        ensures { self.new ≡ record self.old { turns = self.old.turns + 1 } }
+    {
+        self.turns += 1;
+    }
+
+    /// `main` has come to its point.
+    pub fn mark_main(&mut self) -> Result<(), AllocError>
+        ensures { OnOk result (self.new ≡ marked (Mark.MainThere self.old.turns self.old.requests) (record self.old { phase = Phase.Others })) }
+    {
+        self.phase = Phase::Others;
+        self.mark(Mark::MainThere {
+            turn: self.turns,
+            k: self.requests,
+        })
+    }
+
+    /// All threads have come to their points.
+    pub fn mark_back(&mut self) -> Result<(), AllocError>
+        ensures { OnOk result (self.new ≡ marked (Mark.Back self.old.turns self.old.requests) (record self.old { phase = Phase.Run })) }
+    {
+        self.phase = Phase::Run;
+        self.mark(Mark::Back {
+            turn: self.turns,
+            k: self.requests,
+        })
+    }
+
+    /// The closing was refused, since the new version lacks that thread's point.
+    pub fn mark_refused(&mut self, thread: u8) -> Result<(), AllocError>
+        ensures { OnOk result (self.new ≡ marked (Mark.Close self.old.turns self.old.requests (Closed.Point thread)) (record self.old { phase = Phase.Run })) }
+    {
+        self.phase = Phase::Run;
+        self.mark(Mark::Close {
+            turn: self.turns,
+            k: self.requests,
+            closed: Closed::Point(thread),
+        })
+    }
+
+    /// The update was made: the new version's globals have these values, and these are kept aside.
+    pub fn mark_updated(&mut self, memory: Vec<i32>, kept: Vec<Option<i32>>) -> Result<(), AllocError>
+        requires { self.old.version < 2 ^ 31 }
+        ensures { OnOk result (self.new ≡ marked (Mark.Close self.old.turns self.old.requests (Closed.Ok 0)) (record self.old {
+            version = self.old.version + 1; memory = memory.items; kept = kept.items; phase = Phase.Main })) }
+    {
+        self.version += 1;
+        self.memory = memory;
+        self.kept = kept;
+        self.phase = Phase::Main;
+        self.mark(Mark::Close {
+            turn: self.turns,
+            k: self.requests,
+            closed: Closed::Ok(0),
+        })
+    }
+
+    /// The next request, where no update is under way, a next version exists, and enough turns were made.
+    pub fn ask(&mut self, job: &Job) -> Result<(), AllocError>
+        requires { self.old.version < 2 ^ 31 }
+        ensures { OnOk result (self.new ≡ asked (job_of job.now) self.old.phase self.old) }
+    {
+        match self.phase {
+            Phase::Run => self.request(job),
+            Phase::Asked | Phase::Main | Phase::Others => Ok(()),
+        }
+    }
+
+    fn request(&mut self, job: &Job) -> Result<(), AllocError>
+        requires { self.old.version < 2 ^ 31 }
+        ensures { OnOk result (self.new ≡ request (job_of job.now) self.old.after self.old) }
+    {
+        match self.after.first() {
+            Some(turns) if has_version(job, self.version + 1) && *turns <= self.turns => self.take_request(),
+            _ => Ok(()),
+        }
+    }
+
+    fn take_request(&mut self) -> Result<(), AllocError>
+        requires { 0 < length self.old.after }
+        ensures { OnOk result (self.new ≡ marked (Mark.Ask self.old.turns (self.old.requests + 1)) (record self.old {
+            phase = Phase.Asked; after = drop 1 self.old.after; requests = self.old.requests + 1 })) }
+    {
+        self.after.remove(0);
+        self.phase = Phase::Asked;
+        self.requests += 1;
+        self.mark(Mark::Ask {
+            turn: self.turns,
+            k: self.requests,
+        })
+    }
+
+    /// The end by budget, where as many turns were made.
+    pub fn spend(&mut self, job: &Job) -> Result<(), AllocError>
+        ensures { OnOk result (self.new ≡ spent (job_of job.now) self.old) }
+    {
+        if self.turns == job.budget {
+            self.ended = Some(End::Budget);
+            self.mark_end()
+        } else {
+            Ok(())
+        }
+    }
+}
+
+fn has_version(job: &Job, version: u32) -> bool
+    ensures { result ≡ is_some (version_at (job_of job.now) version) }
+{
+    (version as usize) < job.versions.len()
 }
