@@ -4,7 +4,7 @@ ghost use Rattle.std.specs.Prelude.{◌≡◌};
 ghost use Rattle.kt_edge.specs.Writes.{writes_of};
 ghost use Rattle.kt_play.specs.Outcome.{IsLogged, IsWritten};
 
-use crate::end::End;
+use kt_world::mark::End;
 use crate::status::Status;
 use kt_edge::{Sink, write_whole};
 

@@ -3,7 +3,7 @@
 ghost use Rattle.std.specs.Prelude.{◌≡◌};
 ghost use Rattle.kt_play.specs.Status.{exit_of};
 
-use crate::end::End;
+use kt_world::mark::End;
 use kt_meaning::acts::Trap;
 
 /// What was to be read.
