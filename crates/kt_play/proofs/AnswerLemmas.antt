@@ -214,8 +214,9 @@ not_outside [] job n s o = s
 not_outside (a ∷ []) job n s o = o.1 s.0 s.1
 not_outside (a ∷ (r ∷ [])) job n s o = s
 not_outside (a ∷ (r ∷ (b ∷ []))) job n s o = elim o [
-    inl one ↦ one.1 s.0 s.2
-  | inr more ↦ elim more [ inl two ↦ two.2 s.3 | inr three ↦ three.3 s.1 s.4 ] ]
+  | inl one ↦ one.1 s.0 s.2
+  | inr more ↦ elim more [ inl two ↦ two.2 s.3 | inr three ↦ three.3 s.1 s.4 ]
+]
 not_outside (a ∷ (r ∷ (b ∷ (c ∷ more)))) job n s o = s
 
 -- at most one of three files is the first outside

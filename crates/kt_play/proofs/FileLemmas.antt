@@ -38,7 +38,9 @@ begins told name items start s e =
       holds = s.1;
       alike = record {
         whole = λ h. (let all : length s.0 ≤ 262145 = omega arith in sym (e' ∙ take_all 262145 s.0 all));
-        short = λ h. (let all : length s.0 ≤ 262145 = omega arith in sym (e' ∙ take_all 262145 s.0 all)) } }
+        short = λ h. (let all : length s.0 ≤ 262145 = omega arith in sym (e' ∙ take_all 262145 s.0 all));
+      };
+    }
 
 up : (bytes start : List ℕ) (v : Version) → IsAlike bytes start → IsProgramText start v → IsProgramText bytes v
 up bytes start v a text = subst (λ (b : List ℕ). IsProgramText b v) (sym (a.whole text.short)) text
@@ -90,8 +92,12 @@ pub unread_later : (told told' : Option FileMap) (name : List ℕ) (before mid n
     IsCauseFor refusal told before now names
 unread_later told told' name before mid now place names Words same h named c = c
 unread_later told told' name before mid now place names (Read (which.File m)) same h named c = record {
-    place = place; number = c.0; name = name; named = named;
-    cause = elim c.1 [ inl rose ↦ inl (rose_earlier before mid now h rose) | inr lacks ↦ inr (subst (λ (t : Option FileMap). Lacks t name) same lacks) ] }
+  place = place;
+  number = c.0;
+  name = name;
+  named = named;
+  cause = elim c.1 [ inl rose ↦ inl (rose_earlier before mid now h rose) | inr lacks ↦ inr (subst (λ (t : Option FileMap). Lacks t name) same lacks) ];
+}
 unread_later told told' name before mid now place names (File m cause) same h named c = absurd c
 unread_later told told' name before mid now place names Memory same h named c = tt
 
@@ -111,7 +117,8 @@ found_three told m n o a r b s t u (Ok job) f g h d e i text =
     record {
       files = x.bytes ∷ (y.bytes ∷ (z.bytes ∷ []));
       holds = (x.holds, (y.holds, (z.holds, tt)));
-      text = (text.0, text.1, up x.bytes a text.0 x.alike text.2, up_blank y.bytes r y.alike text.3, up z.bytes b text.1 z.alike text.4, text.5) }
+      text = (text.0, text.1, up x.bytes a text.0 x.alike text.2, up_blank y.bytes r y.alike text.3, up z.bytes b text.1 z.alike text.4, text.5);
+    }
 found_three told m n o a r b s t u (Err refusal) f g h d e i text = tt
 
 has_up : (bytes start : List ℕ) → IsAlike bytes start → HasProgramText start → HasProgramText bytes
@@ -130,15 +137,20 @@ refused_three told m n o a r b s t u before now (Err (Read which)) f g h d e i n
 refused_three told m n o a r b s t u before now (Err (File k (Later at))) f g h d e i not_one =
     let x = begins told m s a f d in
     let y = begins told n t r g e in
-    let z = begins told o u b h i in
-    (not_one.0, record {
-      files = x.bytes ∷ (y.bytes ∷ (z.bytes ∷ []));
-      holds = (x.holds, (y.holds, (z.holds, tt)));
-      outside = elim not_one.1 [
-        inl one ↦ inl (one.0, none_up x.bytes a x.alike one.1)
-      | inr more ↦ elim more [
-          inl two ↦ inr (inl (two.0, has_up x.bytes a x.alike two.1, λ blank. two.2 (down_blank y.bytes r y.alike blank)))
-        | inr three ↦ inr (inr (three.0, has_up x.bytes a x.alike three.1, up_blank y.bytes r y.alike three.2, none_up z.bytes b z.alike three.3)) ] ] })
+    let z = begins told o u b h i in (
+      not_one.0,
+      record {
+        files = x.bytes ∷ (y.bytes ∷ (z.bytes ∷ []));
+        holds = (x.holds, (y.holds, (z.holds, tt)));
+        outside = elim not_one.1 [
+          | inl one ↦ inl (one.0, none_up x.bytes a x.alike one.1)
+          | inr more ↦ elim more [
+            | inl two ↦ inr (inl (two.0, has_up x.bytes a x.alike two.1, λ blank. two.2 (down_blank y.bytes r y.alike blank)))
+            | inr three ↦ inr (inr (three.0, has_up x.bytes a x.alike three.1, up_blank y.bytes r y.alike three.2, none_up z.bytes b z.alike three.3))
+          ]
+        ];
+      },
+    )
 refused_three told m n o a r b s t u before now (Err Memory) f g h d e i not_one = tt
 
 -- what holds of an error holds of the result that is that error

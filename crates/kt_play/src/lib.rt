@@ -15,7 +15,6 @@ pub mod report;
 pub mod run;
 pub mod shared;
 pub mod status;
-pub mod turns;
-
 #[cfg(test)]
 mod tests;
+pub mod turns;

@@ -43,7 +43,7 @@ fn write_report<O: Sink, J: Sink>(
     out: &mut O,
     log: &mut J,
 ) -> Status
-        ensures { IsWritten result report.now.how (writes_of O.taken O.faults out.old out.new) (writes_of J.taken J.faults log.old log.new) (out.new ≡ out.old) (log.new ≡ log.old) report.now.output.items (journal_of (replicate report.now.turns 0) report.now.marks.items) }
+    ensures { IsWritten result report.now.how (writes_of O.taken O.faults out.old out.new) (writes_of J.taken J.faults log.old log.new) (out.new ≡ out.old) (log.new ≡ log.old) report.now.output.items (journal_of (replicate report.now.turns 0) report.now.marks.items) }
 {
     match journal(alloc, report.turns, report.marks.as_slice()) {
         Err(_) => Status::NoMemory,

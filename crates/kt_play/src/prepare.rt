@@ -68,14 +68,25 @@ fn read_one<F: Files>(alloc: Global, version: &str, files: &mut F) -> Result<Job
     }
 }
 
-fn read_three<F: Files>(alloc: Global, first: &str, rules: &str, second: &str, files: &mut F) -> Result<Job, Refusal>
+fn read_three<F: Files>(
+    alloc: Global,
+    first: &str,
+    rules: &str,
+    second: &str,
+    files: &mut F,
+) -> Result<Job, Refusal>
     ensures read { IfOk result (λ job. HasJob (F.told files.old) (job_of job) (first.now ∷ (rules.now ∷ (second.now ∷ [])))) }
     ensures runnable { IfOk result IsRunnable }
     ensures cause { IfErr result (λ refusal. IsCauseFor refusal (F.told files.old) (F.faults files.old) (F.faults files.new) (first.now ∷ (rules.now ∷ (second.now ∷ [])))) }
     ensures same { F.told files.new ≡ F.told files.old }
 {
     match read_texts(alloc, first, rules, second, files) {
-        Ok(texts) => two_versions(alloc, texts.first.as_slice(), texts.rules.as_slice(), texts.second.as_slice()),
+        Ok(texts) => two_versions(
+            alloc,
+            texts.first.as_slice(),
+            texts.rules.as_slice(),
+            texts.second.as_slice(),
+        ),
         Err(refusal) => Err(refusal),
     }
 }
@@ -88,7 +99,13 @@ struct Texts {
     second: Vec<u8>,
 }
 
-fn read_texts<F: Files>(alloc: Global, first: &str, rules: &str, second: &str, files: &mut F) -> Result<Texts, Refusal>
+fn read_texts<F: Files>(
+    alloc: Global,
+    first: &str,
+    rules: &str,
+    second: &str,
+    files: &mut F,
+) -> Result<Texts, Refusal>
     ensures first { IfOk result (λ texts. StartsFile (F.told files.old) first.now (262144 + 1) texts.first.items) }
     ensures rules { IfOk result (λ texts. StartsFile (F.told files.old) rules.now (262144 + 1) texts.rules.items) }
     ensures second { IfOk result (λ texts. StartsFile (F.told files.old) second.now (262144 + 1) texts.second.items) }
