@@ -11,14 +11,14 @@ use Rattle.kt_meaning.specs.declared.tree.Operand.{Operand}
 use Rattle.kt_meaning.specs.declared.tree.Operand.TheVariants.{Number, Character, Global}
 use Rattle.kt_meaning.specs.declared.tree.Expr.{Expr}
 use Rattle.kt_meaning.specs.declared.tree.Expr.TheVariants.{Single, Binary}
-use Rattle.kt_meaning.specs.Tree.{Statement, Assigning, Putting, Returning, Choosing, Looping, Block, Empty, Then}
+use Rattle.kt_meaning.specs.Tree.{Statement, Assigning, Putting, Returning, Choosing, Looping, Reaching, Migrating, Block, Empty, Then}
 use Rattle.kt_meaning.specs.Operators.{apply, is_zero}
 use Rattle.kt_meaning.specs.Steps.{Quiet, Acts, AgreeFor, DoesSameActs}
 use Rattle.kt_meaning.specs.Agreement.{agree-left, agree-right, agree-acts, agree-traps, agree-ends}
 use Rattle.kt_meaning.specs.Thread.{Work, Run, Do, Eval, Have, Right, Left, Assigns, Puts, Returns, Chooses, Loops, value_of, with_result, step, settle, entry}
 use Rattle.kt_meaning.specs.TreeSettling.{settle-quiet, settle-acts, settle-traps, settle-ends}
 use Rattle.kt_codegen.specs.declared.instr.Instr.{Instr}
-use Rattle.kt_codegen.specs.declared.instr.Instr.TheVariants.{Operate, StoreGlobal, PutByte, ReturnTop, Skip, SkipIfZero, TickBack}
+use Rattle.kt_codegen.specs.declared.instr.Instr.TheVariants.{Operate, StoreGlobal, PutByte, ReturnTop, Skip, SkipIfZero, TickBack, Reach, Migrate}
 use Rattle.kt_codegen.specs.Machine.{State, state_at, start, result_step, instr_step, machine_step, machine_settle}
 use Rattle.kt_codegen.specs.MachineSettling.{machine_settle-quiet, machine_settle-acts, machine_settle-traps, machine_settle-ends}
 use Rattle.kt_codegen.specs.Code.{operand_code, expr_code, choice_code, loop_code, statement_code, block_code}
@@ -146,6 +146,11 @@ module _ (code : List Instr) where
       let end : q + 1 ≡ p + length (expr_code e ++ i ∷ []) = omega (arith, length-append (expr_code e) (i ∷ [])) in
       expr_agrees e n w p vs (has_front code p (expr_code e) (i ∷ []) h) (λ m le v. k m le v q end (has_back code p (expr_code e) (i ∷ []) h).0)
 
+  -- an act by itself, which takes no value and gives none
+  act_agrees : (i : Instr) (a : Act) (n : ℕ) (x w : Work) (p : ℕ) (vs : List ℤ) → slice_get code p ≡ Some i → step x ≡ Acts a (λ r. w) →
+      instr_step (Some i) p vs ≡ Acts a (λ r. state_at (p + 1) vs) → AgreeUpTo n w (p + 1) vs → Agree n x p vs
+  act_agrees i a n x w p vs h d e k = both_act n _ _ _ _ _ d (there p vs i h ∙ e) (λ m lt r. k m (omega arith))
+
   mutual
     statement_agrees : (s : Statement) (n : ℕ) (w : Work) (p : ℕ) (vs : List ℤ) → HasAt code p (statement_code s) →
         AgreeUpTo n w (p + length (statement_code s)) vs → Agree n (Do s ∷ w) p vs
@@ -176,6 +181,8 @@ module _ (code : List Instr) where
         tree_quiet n _ _ _ refl (code_quiet n _ _ _ (there p vs (Skip (length body)) h.0)
         (turns e b w (p + 1) q vs out end refl (has_back code (p + 1) body way h.1)
         (λ m u j. block_agrees b m u (p + 1) vs (has_front code (p + 1) body way h.1) j) n n (omega arith) k))
+    statement_agrees (Reaching q) n w p vs h k = act_agrees (Reach q) _ n (Do (Reaching q) ∷ w) w p vs h.0 refl refl k
+    statement_agrees Migrating n w p vs h k = act_agrees Migrate _ n (Do Migrating ∷ w) w p vs h.0 refl refl k
 
     block_agrees : (b : Block) (n : ℕ) (w : Work) (p : ℕ) (vs : List ℤ) → HasAt code p (block_code b) →
         AgreeUpTo n w (p + length (block_code b)) vs → Agree n (Run b ∷ w) p vs

@@ -4,9 +4,9 @@ use Rattle.kt_meaning.specs.declared.tree.Operand.{Operand}
 use Rattle.kt_meaning.specs.declared.tree.Operand.TheVariants.{Number, Character, Global}
 use Rattle.kt_meaning.specs.declared.tree.Expr.{Expr}
 use Rattle.kt_meaning.specs.declared.tree.Expr.TheVariants.{Single, Binary}
-use Rattle.kt_meaning.specs.Tree.{Statement, Assigning, Putting, Returning, Choosing, Looping, Block, Empty, Then}
+use Rattle.kt_meaning.specs.Tree.{Statement, Assigning, Putting, Returning, Choosing, Looping, Reaching, Migrating, Block, Empty, Then}
 use Rattle.kt_codegen.specs.declared.instr.Instr.{Instr}
-use Rattle.kt_codegen.specs.declared.instr.Instr.TheVariants.{Push, LoadGlobal, StoreGlobal, PutByte, Operate, ReturnTop, Skip, SkipIfZero, TickBack}
+use Rattle.kt_codegen.specs.declared.instr.Instr.TheVariants.{Push, LoadGlobal, StoreGlobal, PutByte, Operate, ReturnTop, Skip, SkipIfZero, TickBack, Reach, Migrate}
 
 abbrev pub operand_code : Operand → Instr
 operand_code (Number z) = Push z
@@ -32,6 +32,8 @@ abbrev mutual
   statement_code (Returning e) = expr_code e ++ ReturnTop ∷ []
   statement_code (Choosing e b) = choice_code (expr_code e) (block_code b)
   statement_code (Looping e b) = loop_code (expr_code e) (block_code b)
+  statement_code (Reaching n) = Reach n ∷ []
+  statement_code Migrating = Migrate ∷ []
 
   pub block_code : Block → List Instr
   block_code Empty = []

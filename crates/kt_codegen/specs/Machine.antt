@@ -1,12 +1,12 @@
 -- The machine: the state of a private thread, and its steps, one equation an instruction.
 use Rattle.std.specs.Prelude.{ℕ, ◌+◌, ◌-◌, ℤ, pos, List, [], ◌∷◌, length, Option, Some, None, if◌then◌else◌, Result, Ok, Err, slice_get}
-use Rattle.kt_meaning.specs.declared.acts.Act.TheVariants.{Tick, Load, Store, Print}
+use Rattle.kt_meaning.specs.declared.acts.Act.TheVariants.{Tick, Load, Store, Print, Point, Automigrate}
 use Rattle.kt_meaning.specs.declared.acts.Trap.{Trap}
 use Rattle.kt_meaning.specs.Operators.{apply, is_zero, byte_of}
 use Rattle.kt_meaning.specs.Steps.{Step, Quiet, Acts, Traps, Ends, settle_by}
 use Rattle.kt_meaning.specs.Thread.{value_of}
 use Rattle.kt_codegen.specs.declared.instr.Instr.{Instr}
-use Rattle.kt_codegen.specs.declared.instr.Instr.TheVariants.{Push, LoadGlobal, StoreGlobal, PutByte, Operate, ReturnTop, Skip, SkipIfZero, TickBack}
+use Rattle.kt_codegen.specs.declared.instr.Instr.TheVariants.{Push, LoadGlobal, StoreGlobal, PutByte, Operate, ReturnTop, Skip, SkipIfZero, TickBack, Reach, Migrate}
 
 -- where a thread stands in the code, and its operands, topmost first
 pub record State : Type 0 where
@@ -49,6 +49,8 @@ instr_step (Some (SkipIfZero n)) p vs =
     Quiet (state_at (if is_zero (topmost vs) then p + 1 + n else p + 1) (without_top vs))
 instr_step (Some (TickBack n)) p vs =
     if is_zero (topmost vs) then Quiet (state_at (p + 1) (without_top vs)) else Acts Tick (λ reply. state_at (p - n) (without_top vs))
+instr_step (Some (Reach n)) p vs = Acts (Point n) (λ reply. state_at (p + 1) vs)
+instr_step (Some Migrate) p vs = Acts Automigrate (λ reply. state_at (p + 1) vs)
 
 -- the next step of a thread in this code
 abbrev pub machine_step : List Instr → State → Step State

@@ -9,7 +9,7 @@ use Rattle.kt_meaning.specs.Operators.{apply, is_zero}
 use Rattle.kt_meaning.specs.Steps.{Step, Quiet, Acts, Traps, Ends, IsLowering, Settles}
 use Rattle.kt_meaning.specs.Settling.{settle_by-quiet, settle_by-acts, settle_by-traps, settle_by-ends, settle_within-settles}
 use Rattle.kt_codegen.specs.declared.instr.Instr.{Instr}
-use Rattle.kt_codegen.specs.declared.instr.Instr.TheVariants.{Push, LoadGlobal, StoreGlobal, PutByte, Operate, ReturnTop, Skip, SkipIfZero, TickBack}
+use Rattle.kt_codegen.specs.declared.instr.Instr.TheVariants.{Push, LoadGlobal, StoreGlobal, PutByte, Operate, ReturnTop, Skip, SkipIfZero, TickBack, Reach, Migrate}
 use Rattle.kt_codegen.specs.Machine.{State, state_at, topmost, without_top, result_step, instr_step, machine_step, room, machine_settle}
 
 -- a step is no quiet one, or it goes forward
@@ -42,6 +42,8 @@ instr-forward ReturnTop p vs = tt
 instr-forward (Skip n) p vs = omega arith
 instr-forward (SkipIfZero n) p vs = skip-forward (is_zero (topmost vs)) p n
 instr-forward (TickBack n) p vs = tick-forward (is_zero (topmost vs)) p _ _ _
+instr-forward (Reach n) p vs = tt
+instr-forward Migrate p vs = tt
 
 -- a step that is quiet leaves less room
 abbrev LeavesLess : ℕ → ℕ → Step State → Type 0

@@ -66,6 +66,8 @@ fn emit_statement(code: &mut Code, stmt: &Stmt) -> Result<(), AllocError>
             code.push(Instr::TickBack(offset(jump, code.len())?))?;
             Ok(())
         }
+        Stmt::Update(point) => code.push(Instr::Reach(*point)),
+        Stmt::Automigrate => code.push(Instr::Migrate),
     }
 }
 

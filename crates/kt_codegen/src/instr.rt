@@ -24,4 +24,8 @@ pub enum Instr {
     SkipIfZero(u32),
     /// Takes a value. At zero, goes on behind; otherwise this is a tick, and the machine goes that many instructions back.
     TickBack(u32),
+    /// The thread has come to the update point of that number.
+    Reach(u32),
+    /// Places all values of globals that an update kept.
+    Migrate,
 }

@@ -78,6 +78,10 @@ impl Thread {
                 self.go_back(instrs);
                 Ok(())
             }
+            Some(Instr::Reach(_) | Instr::Migrate) => {
+                self.pass(0);
+                Ok(())
+            }
             _ => Ok(()),
         }
     }
@@ -118,6 +122,8 @@ impl Thread {
                 Ok(None)
             }
             Instr::TickBack(_) => Ok(self.leave_or_tick()),
+            Instr::Reach(point) => Ok(Some(Head::Act(Act::Point(point)))),
+            Instr::Migrate => Ok(Some(Head::Act(Act::Automigrate))),
         }
     }
 

@@ -23,6 +23,7 @@ fn on_n(operator: Operator, right: i32) -> Expr {
 fn heads(alloc: Global, body: Vec<Stmt>, n: i32, most: usize) -> Result<Vec<Head>, AllocError> {
     let program = Program {
         globals: Items::new(alloc),
+        points: Items::new(alloc),
         body: Items::from_vec(body),
     };
     let code = compile(alloc, &program)?;
@@ -46,7 +47,7 @@ fn reply_to(act: Act, global: &mut i32) -> Reply {
             *global = value;
             Reply::Done
         }
-        Act::Tick | Act::Print(_) => Reply::Done,
+        Act::Tick | Act::Print(_) | Act::Point(_) | Act::Automigrate => Reply::Done,
     }
 }
 
@@ -156,5 +157,18 @@ fn choices_and_bytes(rt: HostRuntime) -> Result<(), Fail> {
     let then = vec![in alloc; Stmt::Return(number(1))]?;
     let body = vec![in alloc; Stmt::If(N, Items::from_vec(then)), Stmt::Return(number(2))]?;
     expect_heads(&rt, alloc, body, -1, &[LOAD, Head::End(1)])?;
+    Ok(())
+}
+
+#[test]
+fn points_and_automigrate(rt: HostRuntime) -> Result<(), Fail> {
+    let alloc = rt.alloc();
+    let body = vec![in alloc; Stmt::Automigrate, Stmt::Update(1), Stmt::Return(number(7))]?;
+    let want = [
+        Head::Act(Act::Automigrate),
+        Head::Act(Act::Point(1)),
+        Head::End(7),
+    ];
+    expect_heads(&rt, alloc, body, 0, &want)?;
     Ok(())
 }

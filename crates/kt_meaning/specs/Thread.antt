@@ -1,7 +1,7 @@
 -- A thread of the tree: the work that is left, and its steps, one equation a case (ISO/IEC 9899:2011, 5.1.2.3, 6.5, 6.8).
 use Rattle.std.specs.Prelude.{◌≡◌, ℕ, zero, suc, ◌+◌, ◌<◌, ℤ, pos, List, [], ◌∷◌, Bool, if◌then◌else◌, Result, Ok, Err}
 use Rattle.kt_meaning.specs.declared.acts.Act.{Act}
-use Rattle.kt_meaning.specs.declared.acts.Act.TheVariants.{Tick, Load, Store, Print}
+use Rattle.kt_meaning.specs.declared.acts.Act.TheVariants.{Tick, Load, Store, Print, Point, Automigrate}
 use Rattle.kt_meaning.specs.declared.acts.Reply.{Reply}
 use Rattle.kt_meaning.specs.declared.acts.Reply.TheVariants.{Done, Got}
 use Rattle.kt_meaning.specs.declared.acts.Trap.{Trap}
@@ -10,7 +10,7 @@ use Rattle.kt_meaning.specs.declared.tree.Operand.{Operand}
 use Rattle.kt_meaning.specs.declared.tree.Operand.TheVariants.{Number, Character, Global}
 use Rattle.kt_meaning.specs.declared.tree.Expr.{Expr}
 use Rattle.kt_meaning.specs.declared.tree.Expr.TheVariants.{Single, Binary}
-use Rattle.kt_meaning.specs.Tree.{Statement, Assigning, Putting, Returning, Choosing, Looping, Block, Empty, Then}
+use Rattle.kt_meaning.specs.Tree.{Statement, Assigning, Putting, Returning, Choosing, Looping, Reaching, Migrating, Block, Empty, Then}
 use Rattle.kt_meaning.specs.Operators.{apply, is_zero, byte_of}
 use Rattle.kt_meaning.specs.Steps.{Step, Quiet, Acts, Traps, Ends, settle_by}
 
@@ -43,13 +43,15 @@ abbrev pub value_of : Reply → ℤ
 value_of Done = pos 0
 value_of (Got v) = v
 
--- a statement begins (6.8.3, 6.8.4.1, 6.8.5.1, 6.8.6.4)
-abbrev pub begin : Statement → Work → Work
-begin (Assigning g e) w = Eval e ∷ Assigns g ∷ w
-begin (Putting e) w = Eval e ∷ Puts ∷ w
-begin (Returning e) w = Eval e ∷ Returns ∷ w
-begin (Choosing e b) w = Eval e ∷ Chooses b ∷ w
-begin (Looping e b) w = Eval e ∷ Loops e b ∷ w
+-- a statement begins (6.8.3, 6.8.4.1, 6.8.5.1, 6.8.6.4), or is an act by itself
+abbrev pub begin_step : Statement → Work → Step Work
+begin_step (Assigning g e) w = Quiet (Eval e ∷ Assigns g ∷ w)
+begin_step (Putting e) w = Quiet (Eval e ∷ Puts ∷ w)
+begin_step (Returning e) w = Quiet (Eval e ∷ Returns ∷ w)
+begin_step (Choosing e b) w = Quiet (Eval e ∷ Chooses b ∷ w)
+begin_step (Looping e b) w = Quiet (Eval e ∷ Loops e b ∷ w)
+begin_step (Reaching p) w = Acts (Point p) (λ reply. w)
+begin_step Migrating w = Acts Automigrate (λ reply. w)
 
 abbrev pub operand_step : Operand → Work → Step Work
 operand_step (Number z) w = Quiet (Have z ∷ w)
@@ -86,7 +88,7 @@ abbrev pub step : Work → Step Work
 step [] = Ends (pos 0)
 step (Run Empty ∷ w) = Quiet w
 step (Run (Then s b) ∷ w) = Quiet (Do s ∷ Run b ∷ w)
-step (Do s ∷ w) = Quiet (begin s w)
+step (Do s ∷ w) = begin_step s w
 step (Eval e ∷ w) = eval_step e w
 step (Have v ∷ w) = take_step v w
 -- no thread comes to a part that takes a value without one
@@ -114,6 +116,8 @@ abbrev mutual
   statement_weight (Returning e) = expr_weight e + 2
   statement_weight (Choosing e b) = expr_weight e + block_weight b + 2
   statement_weight (Looping e b) = expr_weight e + 2
+  statement_weight (Reaching p) = 0
+  statement_weight Migrating = 0
 
   pub block_weight : Block → ℕ
   block_weight Empty = 1

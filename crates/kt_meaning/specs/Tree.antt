@@ -1,7 +1,7 @@
 -- The tree of a program as plain data: blocks of statements, and the view of the code's tree.
 use Rattle.std.specs.Prelude.{ℕ, ℤ, List, [], ◌∷◌, Option}
 use Rattle.kt_meaning.specs.declared.tree.Expr.{Expr}
-use Rattle.kt_meaning.specs.declared.tree.Stmt.{Stmt, Assign, Put, Return, If', While', Row_of-Stmt, end_of-Stmt, more_of-Stmt}
+use Rattle.kt_meaning.specs.declared.tree.Stmt.{Stmt, Assign, Put, Return, If', While', Update, Automigrate, Row_of-Stmt, end_of-Stmt, more_of-Stmt}
 use Rattle.kt_meaning.specs.declared.tree.Global.{Global}
 use Rattle.kt_meaning.specs.declared.tree.Program.{Program}
 
@@ -13,6 +13,10 @@ mutual
     Returning : Expr → Statement
     Choosing : Expr → Block → Statement
     Looping : Expr → Block → Statement
+    -- the update point of that number is reached
+    Reaching : ℕ → Statement
+    -- kept values of globals are placed
+    Migrating : Statement
 
   pub data Block : Type 0 where
     Empty : Block
@@ -25,6 +29,8 @@ abbrev mutual
   statement_of (Return e) = Returning e
   statement_of (If' e shape row) = Choosing e (block_of_row row)
   statement_of (While' e shape row) = Looping e (block_of_row row)
+  statement_of (Update p) = Reaching p
+  statement_of Automigrate = Migrating
 
   pub block_of_row : {m : _} → Row_of-Stmt m → Block
   block_of_row end_of-Stmt = Empty
@@ -34,3 +40,12 @@ abbrev mutual
 abbrev pub block_of : List Stmt → Block
 block_of [] = Empty
 block_of (s ∷ rest) = Then (statement_of s) (block_of rest)
+
+-- a program as plain data: its globals and the names of its update points, by number, and the body of `main`
+pub record Version : Type 0 where
+  pub globals : List Global
+  pub points : List (List ℕ)
+  pub body : Block
+
+abbrev pub version_of : Program → Version
+version_of program = record { globals = program.globals; points = program.points; body = block_of program.body }

@@ -8,9 +8,9 @@ use Rattle.kt_meaning.specs.declared.tree.Operand.{Operand}
 use Rattle.kt_meaning.specs.declared.tree.Operand.TheVariants.{Number, Character, Global}
 use Rattle.kt_meaning.specs.declared.tree.Expr.{Expr}
 use Rattle.kt_meaning.specs.declared.tree.Expr.TheVariants.{Single, Binary}
-use Rattle.kt_meaning.specs.Tree.{Statement, Assigning, Putting, Returning, Choosing, Looping, Block, Empty, Then}
+use Rattle.kt_meaning.specs.Tree.{Statement, Assigning, Putting, Returning, Choosing, Looping, Reaching, Migrating, Block, Empty, Then}
 use Rattle.kt_meaning.specs.Operators.{apply, is_zero}
-use Rattle.kt_meaning.specs.Thread.{Part, Run, Do, Eval, Have, Right, Left, Assigns, Puts, Returns, Chooses, Loops, Work, begin, operand_step, eval_step, with_result, take_step, step, expr_weight, statement_weight, block_weight, part_weight, weight, settle}
+use Rattle.kt_meaning.specs.Thread.{Part, Run, Do, Eval, Have, Right, Left, Assigns, Puts, Returns, Chooses, Loops, Work, begin_step, operand_step, eval_step, with_result, take_step, step, expr_weight, statement_weight, block_weight, part_weight, weight, settle}
 use Rattle.kt_meaning.specs.Steps.{Step, Quiet, Acts, Traps, Ends, IsLowering, Settles}
 use Rattle.kt_meaning.specs.Settling.{settle_by-quiet, settle_by-acts, settle_by-traps, settle_by-ends, settle_within-settles}
 
@@ -21,12 +21,14 @@ Lowers n (Acts a go) = Unit {0}
 Lowers n (Traps t) = Unit {0}
 Lowers n (Ends v) = Unit {0}
 
-begin-lowers : (s : Statement) (w : Work) → weight (begin s w) < statement_weight s + weight w
+begin-lowers : (s : Statement) (w : Work) → Lowers (statement_weight s + weight w) (begin_step s w)
 begin-lowers (Assigning g e) w = omega arith
 begin-lowers (Putting e) w = omega arith
 begin-lowers (Returning e) w = omega arith
 begin-lowers (Choosing e b) w = omega arith
 begin-lowers (Looping e b) w = omega arith
+begin-lowers (Reaching p) w = tt
+begin-lowers Migrating w = tt
 
 eval-lowers : (e : Expr) (w : Work) → Lowers (expr_weight e + weight w) (eval_step e w)
 eval-lowers (Single (Number z)) w = omega arith

@@ -18,6 +18,10 @@ pub enum Act {
     Store(u32, i32),
     /// Writes one byte of output.
     Print(u8),
+    /// The thread has come to the update point of that number. Numbers are places in the version's list of point names.
+    Point(u32),
+    /// Places all values of globals that an update kept.
+    Automigrate,
 }
 
 /// What a thread is told after its act.
@@ -27,4 +31,12 @@ pub enum Reply {
     Done,
     /// The act is done and gave this value.
     Got(i32),
+}
+
+/// Whether a thread is on the way to an update point after an update.
+#[derive(Clone, Copy, PartialEq, Eq, Debug)]
+pub enum Mode {
+    Normal,
+    /// On the way to the point of that number.
+    Updating(u32),
 }

@@ -1,4 +1,4 @@
-//! What a program of the first form is, and what its thread does step by step.
+//! What a program is, and what its thread does step by step.
 #![tactic(auto)]
 
 pub mod acts;

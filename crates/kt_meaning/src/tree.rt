@@ -1,4 +1,4 @@
-// The tree of a program: globals of type `int`, and the statements of `main`.
+// The tree of a program: globals of type `int`, update points, and the statements of `main`.
 
 use sqlite_items::Items;
 
@@ -39,6 +39,10 @@ pub enum Stmt {
     Return(Expr),
     If(Expr, Items<Stmt>),
     While(Expr, Items<Stmt>),
+    /// Calls `kitsune_update` at the point of that number.
+    Update(u32),
+    /// Calls `kitsune_do_automigrate`.
+    Automigrate,
 }
 
 /// A global variable of type `int`.
@@ -49,9 +53,11 @@ pub struct Global {
     pub initial: Option<i32>,
 }
 
-/// A program: its globals by number, and the body of `main`.
+/// A program: its globals by number, its update points, and the body of `main`.
 #[derive(Debug, Drop)]
 pub struct Program {
     pub globals: Items<Global>,
+    /// The names of the update points by number, each once.
+    pub points: Items<Items<u8>>,
     pub body: Items<Stmt>,
 }

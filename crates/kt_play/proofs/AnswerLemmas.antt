@@ -1,10 +1,10 @@
 -- From an answer and its cause to each promise of the top call.
-use Rattle.std.specs.Prelude.{◌≡◌, ◌≢◌, ℕ, ◌⊎◌, ◌↔◌, List, Option, Some, None, IfSome, refl}
+use Rattle.std.specs.Prelude.{◌≡◌, ◌≢◌, ℕ, zero, suc, ◌⊎◌, ◌↔◌, List, [], ◌∷◌, slice_get, Option, Some, None, IfSome, refl}
 use Rattle.std.proofs.Common.{inl, inr, sym, subst, ap, ◌∙◌}
 use Rattle.kt_edge.specs.Count.{Rose}
 use Rattle.kt_edge.specs.FileMap.{FileMap, Holds, Tells, Lacks, bytes_of}
 use Rattle.kt_edge.specs.Writes.{Writes, TakesOrFails}
-use Rattle.kt_play.specs.declared.end.End.{End}
+use Rattle.kt_world.specs.declared.mark.End.{End}
 use Rattle.kt_play.specs.declared.refusal.Refusal.{Refusal}
 use Rattle.kt_play.specs.declared.refusal.Refusal.TheVariants as refusal
 use Rattle.kt_play.specs.declared.status.Cause.{Cause}
@@ -14,35 +14,37 @@ use Rattle.kt_play.specs.declared.status.Which.TheVariants.{File}
 use Rattle.kt_play.specs.declared.status.Status.{Status}
 use Rattle.kt_play.specs.declared.status.Status.TheVariants.{Main, Trap, Budget, Words, ReadFault, Refused, WriteFault, NoMemory}
 use Rattle.kt_play.specs.Answer.{Call, IsAnswer, IsRan, IsTurnedAway, IsRunOfWords, HasPlayed, HasFailed, IsUnread, IsRefusedFile, EndsOrLacksMemory}
-use Rattle.kt_play.specs.Form.{Source, IsProgramText}
+use Rattle.kt_world.specs.Job.{Job}
+use Rattle.kt_play.specs.Form.{IsProgramText}
+use Rattle.kt_play.specs.Job.{HoldAll, TellAll, IsJobText, IsFirstOutside, IsOutsideOfThree, HasProgramText, IsBlankText, IsNoProgramText}
 use Rattle.kt_play.specs.Order.{order_of}
-use Rattle.kt_play.proofs.Programs.{one_source}
+use Rattle.kt_play.proofs.Programs.{IsProgramText-unique}
 use Rattle.kt_play.specs.Outcome.{FailsToWrite, IsRefused, LogsLine}
-use Rattle.kt_play.specs.Run.{IsRun, IsNamed, IsAccepted, IsOutsideForm, HasProgram, IsCause, IsCauseFor, IsWhole, IsPart, IsOutcome}
+use Rattle.kt_play.specs.Run.{IsRun, IsNamed, IsAccepted, IsOutsideForm, IsUnreadFile, HasJob, IsCause, IsCauseFor, IsWhole, IsPart, IsOutcome}
 use Rattle.kt_play.specs.Status.{end_of, refusal_line, status_of}
 
 -- ---- the headline
 
-played : (call : Call) (source : Source) (how : End) → IsAccepted call.words call.told source → IsWhole source how call.out call.log →
+played : (call : Call) (job : Job) (how : End) → IsAccepted call.words call.told job → IsWhole job how call.out call.log →
     HasPlayed call.words call.told call.out call.log how
-played call source how a w = record {
+played call job how a w = record {
   output = w.output;
   journal = w.journal;
   output_taken = w.output_taken;
   journal_taken = w.journal_taken;
-  run = record { source = source; accepted = a; turns = w.turns; run = w.run };
+  run = record { job = job; accepted = a; turns = w.turns; run = w.run };
 }
 
-ran-headline : (call : Call) (u l : Type 0) (s : Status) (source : Source) → IsAccepted call.words call.told source →
-    IsOutcome s source call.out call.log u l → IfSome (end_of s) (HasPlayed call.words call.told call.out call.log)
-ran-headline call u l (Main v) source a o = played call source _ a o
-ran-headline call u l (Trap t cause) source a o = played call source _ a o
-ran-headline call u l Budget source a o = played call source _ a o
-ran-headline call u l Words source a o = tt
-ran-headline call u l (ReadFault which) source a o = tt
-ran-headline call u l (Refused file cause) source a o = tt
-ran-headline call u l WriteFault source a o = tt
-ran-headline call u l NoMemory source a o = tt
+ran-headline : (call : Call) (u l : Type 0) (s : Status) (job : Job) → IsAccepted call.words call.told job →
+    IsOutcome s job call.out call.log u l → IfSome (end_of s) (HasPlayed call.words call.told call.out call.log)
+ran-headline call u l (Main v) job a o = played call job _ a o
+ran-headline call u l (Trap t cause) job a o = played call job _ a o
+ran-headline call u l Budget job a o = played call job _ a o
+ran-headline call u l Words job a o = tt
+ran-headline call u l (ReadFault which) job a o = tt
+ran-headline call u l (Refused file cause) job a o = tt
+ran-headline call u l WriteFault job a o = tt
+ran-headline call u l NoMemory job a o = tt
 
 away-headline : (call : Call) (u l : Type 0) (s : Status) (r : Refusal) → IsRefused s r call.log l →
     IfSome (end_of s) (HasPlayed call.words call.told call.out call.log)
@@ -56,21 +58,21 @@ away-headline call u l WriteFault r h = tt
 away-headline call u l NoMemory r h = tt
 
 pub headline : (call : Call) (u l : Type 0) (s : Status) → IsAnswer call u l s → IfSome (end_of s) (HasPlayed call.words call.told call.out call.log)
-headline call u l s (inl r) = ran-headline call u l s r.source r.accepted r.outcome
+headline call u l s (inl r) = ran-headline call u l s r.job r.accepted r.outcome
 headline call u l s (inr t) = away-headline call u l s t.why t.refused
 
 -- ---- what was written
 
-ran-line : (call : Call) (u l : Type 0) (s : Status) (source : Source) → IsOutcome s source call.out call.log u l →
+ran-line : (call : Call) (u l : Type 0) (s : Status) (job : Job) → IsOutcome s job call.out call.log u l →
     IfSome (refusal_line s) (λ line. u × TakesOrFails call.log line)
-ran-line call u l (Main v) source o = tt
-ran-line call u l (Trap t cause) source o = tt
-ran-line call u l Budget source o = tt
-ran-line call u l Words source o = absurd o
-ran-line call u l (ReadFault which) source o = absurd o
-ran-line call u l (Refused file cause) source o = absurd o
-ran-line call u l WriteFault source o = tt
-ran-line call u l NoMemory source o = tt
+ran-line call u l (Main v) job o = tt
+ran-line call u l (Trap t cause) job o = tt
+ran-line call u l Budget job o = tt
+ran-line call u l Words job o = absurd o
+ran-line call u l (ReadFault which) job o = absurd o
+ran-line call u l (Refused file cause) job o = absurd o
+ran-line call u l WriteFault job o = tt
+ran-line call u l NoMemory job o = tt
 
 away-line : (call : Call) (u l : Type 0) (s : Status) (r : Refusal) → u → IsRefused s r call.log l →
     IfSome (refusal_line s) (λ line. u × TakesOrFails call.log line)
@@ -84,26 +86,26 @@ away-line call u l WriteFault r untouched h = tt
 away-line call u l NoMemory r untouched h = tt
 
 pub line : (call : Call) (u l : Type 0) (s : Status) → IsAnswer call u l s → IfSome (refusal_line s) (λ line. u × TakesOrFails call.log line)
-line call u l s (inl r) = ran-line call u l s r.source r.outcome
+line call u l s (inl r) = ran-line call u l s r.job r.outcome
 line call u l s (inr t) = away-line call u l s t.why t.unwritten t.refused
 
 pub no_memory : (call : Call) (u l : Type 0) (s : Status) → IsAnswer call u l s → s ≡ NoMemory → u × l
-no_memory call u l s (inl r) e = subst (λ (k : Status). IsOutcome k r.source call.out call.log u l) e r.outcome
+no_memory call u l s (inl r) e = subst (λ (k : Status). IsOutcome k r.job call.out call.log u l) e r.outcome
 no_memory call u l s (inr t) e = (t.unwritten, (subst (λ (k : Status). IsRefused k t.why call.log l) e t.refused).1)
 
-failed : (call : Call) (l : Type 0) (source : Source) → IsAccepted call.words call.told source → IsPart source call.out call.log l →
+failed : (call : Call) (l : Type 0) (job : Job) → IsAccepted call.words call.told job → IsPart job call.out call.log l →
     HasFailed call.words call.told call.out call.log l
-failed call l source a p = record {
+failed call l job a p = record {
   how = p.how;
   output = p.output;
   journal = p.journal;
   fails = p.fails;
-  run = record { source = source; accepted = a; turns = p.turns; run = p.run };
+  run = record { job = job; accepted = a; turns = p.turns; run = p.run };
 }
 
 pub write_fault : (call : Call) (u l : Type 0) (s : Status) → IsAnswer call u l s → s ≡ WriteFault → HasFailed call.words call.told call.out call.log l
 write_fault call u l s (inl r) e =
-    failed call l r.source r.accepted (subst (λ (k : Status). IsOutcome k r.source call.out call.log u l) e r.outcome)
+    failed call l r.job r.accepted (subst (λ (k : Status). IsOutcome k r.job call.out call.log u l) e r.outcome)
 write_fault call u l s (inr t) e = absurd (subst (λ (k : Status). IsRefused k t.why call.log l) e t.refused)
 
 -- ---- refusals and their causes
@@ -115,7 +117,7 @@ cause_as call u l s t r e =
     subst (λ (k : Refusal). IsCause k call.words call.told call.faults_before call.faults_after) e t.cause
 
 words_only : (call : Call) (u l : Type 0) (s : Status) → IsAnswer call u l s → s ≡ Words → order_of call.words ≡ None
-words_only call u l s (inl r) e = absurd (subst (λ (k : Status). IsOutcome k r.source call.out call.log u l) e r.outcome)
+words_only call u l s (inl r) e = absurd (subst (λ (k : Status). IsOutcome k r.job call.out call.log u l) e r.outcome)
 words_only call u l s (inr t) e = cause_as call u l s t refusal.Words (subst (λ (k : Status). IsRefused k t.why call.log l) e t.refused).0
 
 refused-words : (s : Status) (log : Writes) (l : Type 0) → IsRefused s refusal.Words log l → s ≡ Words
@@ -128,7 +130,7 @@ refused-words (Refused file cause) log l h = absurd (let e = h.0 in cc)
 refused-words WriteFault log l h = absurd h
 refused-words NoMemory log l h = absurd (h.0 refl)
 
-no_order : (words : List (List ℕ)) (P : List ℕ → Type 0) → IsNamed words P → order_of words ≡ None → ⊥
+no_order : (words : List (List ℕ)) (P : List (List ℕ) → Type 0) → IsNamed words P → order_of words ≡ None → ⊥
 no_order words P n e = let o = n.order in cc
 
 words_all : (call : Call) (u l : Type 0) (s : Status) → IsAnswer call u l s → order_of call.words ≡ None → s ≡ Words
@@ -140,17 +142,16 @@ words call u l s a = (words_only call u l s a, words_all call u l s a)
 
 pub unread : (call : Call) (u l : Type 0) (s : Status) → IsAnswer call u l s → (which : Which) → s ≡ ReadFault which →
     IsUnread call.words call.told call.faults_before call.faults_after which
-unread call u l s (inl r) which e = absurd (subst (λ (k : Status). IsOutcome k r.source call.out call.log u l) e r.outcome)
+unread call u l s (inl r) which e = absurd (subst (λ (k : Status). IsOutcome k r.job call.out call.log u l) e r.outcome)
 unread call u l s (inr t) (File n) e =
-    let c = cause_as call u l s t (refusal.Read (File n)) (subst (λ (k : Status). IsRefused k t.why call.log l) e t.refused).0 in
-    record { file = ap File c.fact.0; cause = record { name = c.name; order = c.order; fact = c.fact.1 } }
+    record { number = n; file = refl; cause = cause_as call u l s t (refusal.Read (File n)) (subst (λ (k : Status). IsRefused k t.why call.log l) e t.refused).0 }
 
 pub refused : (call : Call) (u l : Type 0) (s : Status) → IsAnswer call u l s → (file : ℕ) (cause : Cause) → s ≡ Refused file cause →
     IsRefusedFile call.words call.told file cause
-refused call u l s (inl r) file cause e = absurd (subst (λ (k : Status). IsOutcome k r.source call.out call.log u l) e r.outcome)
+refused call u l s (inl r) file cause e = absurd (subst (λ (k : Status). IsOutcome k r.job call.out call.log u l) e r.outcome)
 refused call u l s (inr t) file (Later at) e =
     let c = cause_as call u l s t (refusal.File file (Later at)) (subst (λ (k : Status). IsRefused k t.why call.log l) e t.refused).0 in
-    record { number = c.fact.0; later = ap Later c.fact.1; outside = record { name = c.name; order = c.order; fact = c.fact.2 } }
+    record { later = ap Later c.fact.0; outside = record { names = c.names; order = c.order; fact = c.fact.1 } }
 
 -- ---- completeness
 
@@ -159,20 +160,84 @@ one_file : (told : Option FileMap) (name bytes other : List ℕ) → Tells told 
 one_file None name bytes other t h = absurd t
 one_file (Some files) name bytes other t h = cc
 
+one_list : (told : Option FileMap) (names files others : List (List ℕ)) → TellAll told names files → HoldAll told names others → others ≡ files
+one_list told [] [] [] t h = refl
+one_list told [] [] (o ∷ others) t h = absurd h
+one_list told [] (b ∷ files) others t h = absurd t
+one_list told (n ∷ names) [] others t h = absurd t
+one_list told (n ∷ names) (b ∷ files) [] t h = absurd h
+one_list told (n ∷ names) (b ∷ files) (o ∷ others) t h =
+    let x = one_file told n b o t.0 h.0 in let y = one_list told names files others t.1 h.1 in cc
+
 lacking : (told : Option FileMap) (name bytes : List ℕ) → Lacks told name → Holds told name bytes → ⊥
 lacking None name bytes k h = k
 lacking (Some files) name bytes k h = cc
 
-lacking_told : (told : Option FileMap) (name bytes : List ℕ) → Tells told name bytes → Lacks told name → ⊥
-lacking_told None name bytes t k = k
-lacking_told (Some files) name bytes t k = cc
+told_holds : (told : Option FileMap) (name bytes : List ℕ) → Tells told name bytes → Holds told name bytes
+told_holds None name bytes t = absurd t
+told_holds (Some files) name bytes t = t
 
--- what is said of the file that the words name, said of this name
-at_name : (words : List (List ℕ)) (P : List ℕ → Type 0) (name : List ℕ) → order_of words ≡ Some name → IsNamed words P → P name
-at_name words P name e n = let o = n.order in let same : n.name ≡ name = cc in subst P same n.fact
+-- no name of files that are held is lacking
+lacking_none : (told : Option FileMap) (names files : List (List ℕ)) (place : ℕ) (name : List ℕ) → HoldAll told names files →
+    slice_get names place ≡ Some name → Lacks told name → ⊥
+lacking_none told [] files place name h e k = cc
+lacking_none told (n ∷ names) [] place name h e k = h
+lacking_none told (n ∷ names) (b ∷ files) zero name h e k =
+    let same : n ≡ name = cc in lacking told n b (subst (Lacks told) (sym same) k) h.0
+lacking_none told (n ∷ names) (b ∷ files) (suc place) name h e k = lacking_none told names files place name h.1 e k
 
-no_name : (words : List (List ℕ)) (name : List ℕ) → order_of words ≡ Some name → order_of words ≡ None → ⊥
-no_name words name e n = cc
+hold_told : (told : Option FileMap) (names files : List (List ℕ)) → TellAll told names files → HoldAll told names files
+hold_told told [] [] t = tt
+hold_told told [] (b ∷ files) t = t
+hold_told told (n ∷ names) [] t = t
+hold_told told (n ∷ names) (b ∷ files) t = (told_holds told n b t.0, hold_told told names files t.1)
+
+-- what is said of the files that the words name, said of these names
+at_names : (words : List (List ℕ)) (P : List (List ℕ) → Type 0) (names : List (List ℕ)) → order_of words ≡ Some names → IsNamed words P → P names
+at_names words P names e n = let o = n.order in let same : n.names ≡ names = cc in subst P same n.fact
+
+no_name : (words names : List (List ℕ)) → order_of words ≡ Some names → order_of words ≡ None → ⊥
+no_name words names e n = cc
+
+-- texts are those of at most one job, and then of none that is refused
+one_job : (files : List (List ℕ)) (job other : Job) → IsJobText files job → IsJobText files other → job ≡ other
+one_job [] job other s t = absurd s
+one_job (a ∷ []) job other s t =
+    let v = IsProgramText-unique a s.0 t.0 s.1 t.1 in let x = s.2 in let y = t.2 in cc
+one_job (a ∷ (r ∷ [])) job other s t = absurd s
+one_job (a ∷ (r ∷ (b ∷ []))) job other s t =
+    let v = IsProgramText-unique a s.0 t.0 s.2 t.2 in let w = IsProgramText-unique b s.1 t.1 s.4 t.4 in let x = s.5 in let y = t.5 in cc
+one_job (a ∷ (r ∷ (b ∷ (c ∷ more)))) job other s t = absurd s
+
+not_outside : (files : List (List ℕ)) (job : Job) (n : ℕ) → IsJobText files job → IsFirstOutside files n → ⊥
+not_outside [] job n s o = s
+not_outside (a ∷ []) job n s o = o.1 s.0 s.1
+not_outside (a ∷ (r ∷ [])) job n s o = s
+not_outside (a ∷ (r ∷ (b ∷ []))) job n s o = elim o [
+  | inl one ↦ one.1 s.0 s.2
+  | inr more ↦ elim more [ inl two ↦ two.2 s.3 | inr three ↦ three.3 s.1 s.4 ]
+]
+not_outside (a ∷ (r ∷ (b ∷ (c ∷ more)))) job n s o = s
+
+-- at most one of three files is the first outside
+one_of_three : (a r b : List ℕ) (m n : ℕ) → IsOutsideOfThree a r b m → IsOutsideOfThree a r b n → m ≡ n
+one_of_three a r b m n (inl p) (inl q) = p.0 ∙ sym q.0
+one_of_three a r b m n (inl p) (inr (inl q)) = absurd (p.1 q.1.0 q.1.1)
+one_of_three a r b m n (inl p) (inr (inr q)) = absurd (p.1 q.1.0 q.1.1)
+one_of_three a r b m n (inr (inl p)) (inl q) = absurd (q.1 p.1.0 p.1.1)
+one_of_three a r b m n (inr (inl p)) (inr (inl q)) = p.0 ∙ sym q.0
+one_of_three a r b m n (inr (inl p)) (inr (inr q)) = absurd (p.2 q.2)
+one_of_three a r b m n (inr (inr p)) (inl q) = absurd (q.1 p.1.0 p.1.1)
+one_of_three a r b m n (inr (inr p)) (inr (inl q)) = absurd (q.2 p.2)
+one_of_three a r b m n (inr (inr p)) (inr (inr q)) = p.0 ∙ sym q.0
+
+-- at most one file is the first outside
+one_outside : (files : List (List ℕ)) (m n : ℕ) → IsFirstOutside files m → IsFirstOutside files n → m ≡ n
+one_outside [] m n s t = absurd s
+one_outside (a ∷ []) m n s t = s.0 ∙ sym t.0
+one_outside (a ∷ (r ∷ [])) m n s t = absurd s
+one_outside (a ∷ (r ∷ (b ∷ []))) m n s t = one_of_three a r b m n s t
+one_outside (a ∷ (r ∷ (b ∷ (c ∷ more)))) m n s t = absurd s
 
 refused-memory : (s : Status) (log : Writes) (l : Type 0) → IsRefused s refusal.Memory log l → s ≡ NoMemory
 refused-memory (Main v) log l h = absurd h
@@ -184,90 +249,99 @@ refused-memory (Refused file cause) log l h = absurd (let e = h.0 in cc)
 refused-memory WriteFault log l h = absurd h
 refused-memory NoMemory log l h = refl
 
-refused-read : (s : Status) (n : ℕ) (log : Writes) (l : Type 0) → n ≡ 1 → IsRefused s (refusal.Read (File n)) log l →
-    (s ≡ ReadFault (File 1)) ⊎ (s ≡ NoMemory)
-refused-read (Main v) n log l one h = absurd h
-refused-read (Trap t cause) n log l one h = absurd h
-refused-read Budget n log l one h = absurd h
-refused-read Words n log l one h = absurd (let e = h.0 in cc)
-refused-read (ReadFault which) n log l one h = let e = h.0 in inl cc
-refused-read (Refused file cause) n log l one h = absurd (let e = h.0 in cc)
-refused-read WriteFault n log l one h = absurd h
-refused-read NoMemory n log l one h = inr refl
+-- a read that failed is told as such, or memory was wanting
+abbrev IsReadFault : Status → Type 0
+IsReadFault s = ((which : Which) × (s ≡ ReadFault which)) ⊎ (s ≡ NoMemory)
 
-refused-file : (s : Status) (n at : ℕ) (log : Writes) (l : Type 0) → n ≡ 1 → at ≡ 0 → IsRefused s (refusal.File n (Later at)) log l →
-    (s ≡ Refused 1 (Later 0)) ⊎ (s ≡ NoMemory)
-refused-file (Main v) n at log l one none h = absurd h
-refused-file (Trap t cause) n at log l one none h = absurd h
-refused-file Budget n at log l one none h = absurd h
-refused-file Words n at log l one none h = absurd (let e = h.0 in cc)
-refused-file (ReadFault which) n at log l one none h = absurd (let e = h.0 in cc)
-refused-file (Refused file cause) n at log l one none h = let e = h.0 in inl cc
-refused-file WriteFault n at log l one none h = absurd h
-refused-file NoMemory n at log l one none h = inr refl
+refused-read : (s : Status) (which : Which) (log : Writes) (l : Type 0) → IsRefused s (refusal.Read which) log l → IsReadFault s
+refused-read (Main v) which log l h = absurd h
+refused-read (Trap t cause) which log l h = absurd h
+refused-read Budget which log l h = absurd h
+refused-read Words which log l h = absurd (let e = h.0 in cc)
+refused-read (ReadFault other) which log l h = inl (other, refl)
+refused-read (Refused file cause) which log l h = absurd (let e = h.0 in cc)
+refused-read WriteFault which log l h = absurd h
+refused-read NoMemory which log l h = inr refl
+
+refused-file : (s : Status) (n at file : ℕ) (log : Writes) (l : Type 0) → n ≡ file → at ≡ 0 → IsRefused s (refusal.File n (Later at)) log l →
+    (s ≡ Refused file (Later 0)) ⊎ (s ≡ NoMemory)
+refused-file (Main v) n at file log l same none h = absurd h
+refused-file (Trap t cause) n at file log l same none h = absurd h
+refused-file Budget n at file log l same none h = absurd h
+refused-file Words n at file log l same none h = absurd (let e = h.0 in cc)
+refused-file (ReadFault which) n at file log l same none h = absurd (let e = h.0 in cc)
+refused-file (Refused other cause) n at file log l same none h = let e = h.0 in inl cc
+refused-file WriteFault n at file log l same none h = absurd h
+refused-file NoMemory n at file log l same none h = inr refl
 
 -- no sink failed, so the run's end is the answer
-ran-complete : (call : Call) (u l : Type 0) (s : Status) (source : Source) → ¬ Rose call.out.faults_before call.out.faults_after →
-    ¬ Rose call.log.faults_before call.log.faults_after → IsOutcome s source call.out call.log u l → EndsOrLacksMemory source s
-ran-complete call u l (Main v) source no_out no_log o = inr (_, o.turns, o.run.complete, refl)
-ran-complete call u l (Trap t cause) source no_out no_log o = inr (_, o.turns, o.run.complete, refl)
-ran-complete call u l Budget source no_out no_log o = inr (_, o.turns, o.run.complete, refl)
-ran-complete call u l Words source no_out no_log o = absurd o
-ran-complete call u l (ReadFault which) source no_out no_log o = absurd o
-ran-complete call u l (Refused file cause) source no_out no_log o = absurd o
-ran-complete call u l WriteFault source no_out no_log o = absurd (elim o.fails [ inl first ↦ no_out first.0.0 | inr second ↦ no_log second.1.0 ])
-ran-complete call u l NoMemory source no_out no_log o = inl refl
+ran-complete : (call : Call) (u l : Type 0) (s : Status) (job : Job) → ¬ Rose call.out.faults_before call.out.faults_after →
+    ¬ Rose call.log.faults_before call.log.faults_after → IsOutcome s job call.out call.log u l → EndsOrLacksMemory job s
+ran-complete call u l (Main v) job no_out no_log o = inr (_, o.turns, o.run.complete, refl)
+ran-complete call u l (Trap t cause) job no_out no_log o = inr (_, o.turns, o.run.complete, refl)
+ran-complete call u l Budget job no_out no_log o = inr (_, o.turns, o.run.complete, refl)
+ran-complete call u l Words job no_out no_log o = absurd o
+ran-complete call u l (ReadFault which) job no_out no_log o = absurd o
+ran-complete call u l (Refused file cause) job no_out no_log o = absurd o
+ran-complete call u l WriteFault job no_out no_log o = absurd (elim o.fails [ inl first ↦ no_out first.0.0 | inr second ↦ no_log second.1.0 ])
+ran-complete call u l NoMemory job no_out no_log o = inl refl
 
-away-complete : (call : Call) (l : Type 0) (s : Status) (r : Refusal) (name bytes : List ℕ) (source : Source) → order_of call.words ≡ Some name →
-    Tells call.told name bytes → IsProgramText bytes source → ¬ Rose call.faults_before call.faults_after →
+away-complete : (call : Call) (l : Type 0) (s : Status) (r : Refusal) (names files : List (List ℕ)) (job : Job) → order_of call.words ≡ Some names →
+    TellAll call.told names files → IsJobText files job → ¬ Rose call.faults_before call.faults_after →
     IsCause r call.words call.told call.faults_before call.faults_after → IsRefused s r call.log l → s ≡ NoMemory
-away-complete call l s refusal.Words name bytes source e t text calm cause h = absurd (no_name call.words name e cause)
-away-complete call l s (refusal.Read (File n)) name bytes source e t text calm cause h =
-    absurd (elim (at_name call.words _ name e cause).1 [ inl rose ↦ calm rose | inr lacks ↦ lacking_told call.told name bytes t lacks ])
-away-complete call l s (refusal.File n (Later at)) name bytes source e t text calm cause h =
-    let outside = (at_name call.words _ name e cause).2 in
-    absurd (outside.no_program source (subst (λ (b : List ℕ). IsProgramText b source) (sym (one_file call.told name bytes outside.bytes t outside.holds)) text))
-away-complete call l s refusal.Memory name bytes source e t text calm cause h = refused-memory s call.log l h
+away-complete call l s refusal.Words names files job e t text calm cause h = absurd (no_name call.words names e cause)
+away-complete call l s (refusal.Read (File n)) names files job e t text calm cause h =
+    let c = at_names call.words _ names e cause in
+    absurd (elim c.cause [ inl rose ↦ calm rose | inr lacks ↦ lacking_none call.told names files c.place c.name (hold_told call.told names files t) c.named lacks ])
+away-complete call l s (refusal.File n (Later at)) names files job e t text calm cause h =
+    let outside = (at_names call.words _ names e cause).1 in
+    absurd (not_outside files job n text (subst (λ (b : List (List ℕ)). IsFirstOutside b n) (one_list call.told names files outside.files t outside.holds) outside.outside))
+away-complete call l s refusal.Memory names files job e t text calm cause h = refused-memory s call.log l h
 
-pub complete : (call : Call) (u l : Type 0) (s : Status) → IsAnswer call u l s → (name bytes : List ℕ) (source : Source) →
-    order_of call.words ≡ Some name → Tells call.told name bytes → IsProgramText bytes source → ¬ Rose call.faults_before call.faults_after →
-    ¬ Rose call.out.faults_before call.out.faults_after → ¬ Rose call.log.faults_before call.log.faults_after → EndsOrLacksMemory source s
-complete call u l s (inl r) name bytes source e t text calm no_out no_log =
-    let has = at_name call.words (HasProgram call.told r.source) name e r.accepted in
-    let same = one_file call.told name bytes has.bytes t has.holds in
-    let one = one_source bytes r.source source (subst (λ (b : List ℕ). IsProgramText b r.source) same has.text) text in
-    ran-complete call u l s source no_out no_log (subst (λ (k : Source). IsOutcome s k call.out call.log u l) one r.outcome)
-complete call u l s (inr x) name bytes source e t text calm no_out no_log =
-    inl (away-complete call l s x.why name bytes source e t text calm x.cause x.refused)
+pub complete : (call : Call) (u l : Type 0) (s : Status) → IsAnswer call u l s → (names files : List (List ℕ)) (job : Job) →
+    order_of call.words ≡ Some names → TellAll call.told names files → IsJobText files job → ¬ Rose call.faults_before call.faults_after →
+    ¬ Rose call.out.faults_before call.out.faults_after → ¬ Rose call.log.faults_before call.log.faults_after → EndsOrLacksMemory job s
+complete call u l s (inl r) names files job e t text calm calm_out calm_log =
+    let has = at_names call.words (HasJob call.told r.job) names e r.accepted in
+    let same = one_list call.told names files has.files t has.holds in
+    let one = one_job files r.job job (subst (λ (b : List (List ℕ)). IsJobText b r.job) same has.text) text in
+    ran-complete call u l s job calm_out calm_log (subst (λ (k : Job). IsOutcome s k call.out call.log u l) one r.outcome)
+complete call u l s (inr x) names files job e t text calm calm_out calm_log =
+    inl (away-complete call l s x.why names files job e t text calm x.cause x.refused)
 
-away-missing : (call : Call) (l : Type 0) (s : Status) (r : Refusal) (name : List ℕ) → order_of call.words ≡ Some name → Lacks call.told name →
-    IsCause r call.words call.told call.faults_before call.faults_after → IsRefused s r call.log l → (s ≡ ReadFault (File 1)) ⊎ (s ≡ NoMemory)
-away-missing call l s refusal.Words name e k cause h = absurd (no_name call.words name e cause)
-away-missing call l s (refusal.Read (File n)) name e k cause h = refused-read s n call.log l (at_name call.words _ name e cause).0 h
-away-missing call l s (refusal.File n (Later at)) name e k cause h =
-    let outside = (at_name call.words _ name e cause).2 in absurd (lacking call.told name outside.bytes k outside.holds)
-away-missing call l s refusal.Memory name e k cause h = inr (refused-memory s call.log l h)
+away-missing : (call : Call) (l : Type 0) (s : Status) (r : Refusal) (names : List (List ℕ)) (place : ℕ) (name : List ℕ) → order_of call.words ≡ Some names →
+    slice_get names place ≡ Some name → Lacks call.told name →
+    IsCause r call.words call.told call.faults_before call.faults_after → IsRefused s r call.log l → IsReadFault s
+away-missing call l s refusal.Words names place name e n k cause h = absurd (no_name call.words names e cause)
+away-missing call l s (refusal.Read which) names place name e n k cause h = refused-read s which call.log l h
+away-missing call l s (refusal.File m (Later at)) names place name e n k cause h =
+    let outside = (at_names call.words _ names e cause).1 in absurd (lacking_none call.told names outside.files place name outside.holds n k)
+away-missing call l s refusal.Memory names place name e n k cause h = inr (refused-memory s call.log l h)
 
-pub missing : (call : Call) (u l : Type 0) (s : Status) → IsAnswer call u l s → (name : List ℕ) → order_of call.words ≡ Some name →
-    Lacks call.told name → (s ≡ ReadFault (File 1)) ⊎ (s ≡ NoMemory)
-missing call u l s (inl r) name e k =
-    let has = at_name call.words (HasProgram call.told r.source) name e r.accepted in absurd (lacking call.told name has.bytes k has.holds)
-missing call u l s (inr x) name e k = away-missing call l s x.why name e k x.cause x.refused
+pub missing : (call : Call) (u l : Type 0) (s : Status) → IsAnswer call u l s → (names : List (List ℕ)) (place : ℕ) (name : List ℕ) →
+    order_of call.words ≡ Some names → slice_get names place ≡ Some name → Lacks call.told name → IsReadFault s
+missing call u l s (inl r) names place name e n k =
+    let has = at_names call.words (HasJob call.told r.job) names e r.accepted in
+    absurd (lacking_none call.told names has.files place name has.holds n k)
+missing call u l s (inr x) names place name e n k = away-missing call l s x.why names place name e n k x.cause x.refused
 
-away-outside : (call : Call) (l : Type 0) (s : Status) (r : Refusal) (name bytes : List ℕ) → order_of call.words ≡ Some name →
-    Tells call.told name bytes → ¬ Rose call.faults_before call.faults_after →
-    IsCause r call.words call.told call.faults_before call.faults_after → IsRefused s r call.log l → (s ≡ Refused 1 (Later 0)) ⊎ (s ≡ NoMemory)
-away-outside call l s refusal.Words name bytes e t calm cause h = absurd (no_name call.words name e cause)
-away-outside call l s (refusal.Read (File n)) name bytes e t calm cause h =
-    absurd (elim (at_name call.words _ name e cause).1 [ inl rose ↦ calm rose | inr lacks ↦ lacking_told call.told name bytes t lacks ])
-away-outside call l s (refusal.File n (Later at)) name bytes e t calm cause h =
-    let c = at_name call.words _ name e cause in refused-file s n at call.log l c.0 c.1 h
-away-outside call l s refusal.Memory name bytes e t calm cause h = inr (refused-memory s call.log l h)
+away-outside : (call : Call) (l : Type 0) (s : Status) (r : Refusal) (names files : List (List ℕ)) (file : ℕ) → order_of call.words ≡ Some names →
+    TellAll call.told names files → IsFirstOutside files file → ¬ Rose call.faults_before call.faults_after →
+    IsCause r call.words call.told call.faults_before call.faults_after → IsRefused s r call.log l → (s ≡ Refused file (Later 0)) ⊎ (s ≡ NoMemory)
+away-outside call l s refusal.Words names files file e t none calm cause h = absurd (no_name call.words names e cause)
+away-outside call l s (refusal.Read (File n)) names files file e t none calm cause h =
+    let c = at_names call.words _ names e cause in
+    absurd (elim c.cause [ inl rose ↦ calm rose | inr lacks ↦ lacking_none call.told names files c.place c.name (hold_told call.told names files t) c.named lacks ])
+away-outside call l s (refusal.File n (Later at)) names files file e t none calm cause h =
+    let c = at_names call.words _ names e cause in
+    let o = subst (λ (b : List (List ℕ)). IsFirstOutside b n) (one_list call.told names files c.1.files t c.1.holds) c.1.outside in
+    refused-file s n at file call.log l (one_outside files n file o none) c.0 h
+away-outside call l s refusal.Memory names files file e t none calm cause h = inr (refused-memory s call.log l h)
 
-pub outside_form : (call : Call) (u l : Type 0) (s : Status) → IsAnswer call u l s → (name bytes : List ℕ) → order_of call.words ≡ Some name →
-    Tells call.told name bytes → ((source : Source) → IsProgramText bytes source → ⊥) → ¬ Rose call.faults_before call.faults_after →
-    (s ≡ Refused 1 (Later 0)) ⊎ (s ≡ NoMemory)
-outside_form call u l s (inl r) name bytes e t none calm =
-    let has = at_name call.words (HasProgram call.told r.source) name e r.accepted in
-    absurd (none r.source (subst (λ (b : List ℕ). IsProgramText b r.source) (one_file call.told name bytes has.bytes t has.holds) has.text))
-outside_form call u l s (inr x) name bytes e t none calm = away-outside call l s x.why name bytes e t calm x.cause x.refused
+pub outside_form : (call : Call) (u l : Type 0) (s : Status) → IsAnswer call u l s → (names files : List (List ℕ)) (file : ℕ) →
+    order_of call.words ≡ Some names → TellAll call.told names files → IsFirstOutside files file → ¬ Rose call.faults_before call.faults_after →
+    (s ≡ Refused file (Later 0)) ⊎ (s ≡ NoMemory)
+outside_form call u l s (inl r) names files file e t none calm =
+    let has = at_names call.words (HasJob call.told r.job) names e r.accepted in
+    absurd (not_outside files r.job file (subst (λ (b : List (List ℕ)). IsJobText b r.job) (one_list call.told names files has.files t has.holds) has.text) none)
+outside_form call u l s (inr x) names files file e t none calm = away-outside call l s x.why names files file e t none calm x.cause x.refused

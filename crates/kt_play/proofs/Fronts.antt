@@ -1,5 +1,5 @@
 -- A piece is read at the front of a text exactly where it stands there.
-use Rattle.std.proofs.Common.{◌≡◌, ℕ, zero, suc, ◌+◌, ◌-◌, ◌<◌, ◌≤◌, Bool, true, false, not, cond, ◌&&◌, ◌||◌, List, [], ◌∷◌, ◌++◌, length, take, drop, Option, Some, None, refl, sym, ap, subst, ◌∙◌, arith, inl, inr, ◌⊎◌}
+use Rattle.std.proofs.Common.{◌≡◌, ℕ, zero, suc, ◌+◌, ◌-◌, ◌<◌, ◌≤◌, Bool, true, false, not, cond, ◌&&◌, ◌||◌, List, [], ◌∷◌, ◌++◌, length, take, drop, Option, Some, None, refl, sym, ap, subst, ◌∙◌, arith, inl, inr, ◌⊎◌, append_assoc}
 use Rattle.std.specs.Prelude.{◌==◌}
 use Rattle.std.specs.List.{prefix_len, list_all}
 use Rattle.std.specs.Char.{is_ascii_digit}
@@ -8,8 +8,8 @@ use Rattle.std.proofs.lemmas.List.{take_at, drop_at, take-append-drop}
 use Rattle.std.proofs.lemmas.Option.{cond_some, same_Some}
 use Rattle.kt_play.specs.declared.form.token.Sign.{Sign}
 use Rattle.kt_play.specs.declared.form.token.Sign.TheVariants.{OpenParenthesis, CloseParenthesis, OpenBrace, CloseBrace, Semicolon, Assign, Equal, Plus, Minus, Less}
-use Rattle.kt_play.specs.Pieces.{Piece, Blank, Letters, Digits, Quoted, Mark, is_blank, begins_word, is_word_byte, is_word, is_decimal, is_character, is_well_spelled, sign_spelling, spelling, sign_continues, continues, first_is, goes_on}
-use Rattle.kt_play.specs.Reading.{◌>>=◌, checked, word_at, number_at, escape_at, character_at, single_sign, other_sign_at, sign_at, piece_at}
+use Rattle.kt_play.specs.Pieces.{Piece, Blank, Letters, Digits, Quoted, Text, Mark, is_blank, begins_word, is_word_byte, is_word, is_decimal, is_character, is_point_byte, is_well_spelled, sign_spelling, spelling, sign_continues, continues, first_is, goes_on}
+use Rattle.kt_play.specs.Reading.{◌>>=◌, checked, word_at, number_at, escape_at, character_at, closed_at, text_at, single_sign, other_sign_at, sign_at, piece_at}
 
 -- the piece stands at the front, and this is the rest
 pub record Stands (p : Piece) (bytes rest : List ℕ) : Type 0 where
@@ -72,6 +72,9 @@ blank_is_no_digit b h = grind (arith, nat_tests)
 blank_is_no_quote : (b : ℕ) → is_blank b ≡ true → (b == 39) ≡ false
 blank_is_no_quote b h = grind (arith, nat_tests)
 
+blank_is_no_double_quote : (b : ℕ) → is_blank b ≡ true → (b == 34) ≡ false
+blank_is_no_double_quote b h = grind (arith, nat_tests)
+
 digit_begins_no_word : (b : ℕ) → is_ascii_digit b ≡ true → begins_word b ≡ false
 digit_begins_no_word b h = grind (arith, nat_tests)
 
@@ -123,9 +126,15 @@ character_at-again c rest well f =
     second (c == 92) (escape_at (39 ∷ rest)) (cond ((39 == 39) && is_character c && not (c == 10)) (Some (Quoted c, rest)) None) no_backslash
     ∙ first ((39 == 39) && is_character c && not (c == 10)) (Some (Quoted c, rest)) None plain
 
+text_at-again : (bytes rest : List ℕ) → list_all is_point_byte bytes ≡ true → text_at (bytes ++ 34 ∷ rest) ≡ Some (Text bytes, rest)
+unfolding text_at
+text_at-again bytes rest all =
+    let n = run_length is_point_byte bytes (34 ∷ rest) all refl in
+    rw (n, take_at bytes (34 ∷ rest) (length bytes) refl, drop_at bytes (34 ∷ rest) (length bytes) refl) refl
+
 pub piece_at-again : (p : Piece) (rest : List ℕ) → is_well_spelled p ≡ true → goes_on p rest ≡ false → piece_at (spelling p ++ rest) ≡ Some (p, rest)
 unfolding piece_at sign_at single_sign character_at
-piece_at-again (Blank b) rest well stops = rw (blank_begins_no_word b well, blank_is_no_digit b well, blank_is_no_quote b well, well) refl
+piece_at-again (Blank b) rest well stops = rw (blank_begins_no_word b well, blank_is_no_digit b well, blank_is_no_quote b well, blank_is_no_double_quote b well, well) refl
 piece_at-again (Letters []) rest well stops = absurd cc
 piece_at-again (Letters (b ∷ word)) rest well stops =
     let both = and_true (begins_word b) (list_all is_word_byte word) well in
@@ -141,6 +150,7 @@ piece_at-again (Quoted c) rest well stops =
       | inl t ↦ let e : c ≡ 10 = same_byte c 10 t in rw e refl
       | inr f ↦ let s : spelling (Quoted c) ≡ 39 ∷ c ∷ 39 ∷ [] = rw f refl in ap (λ (s : List ℕ). piece_at (s ++ rest)) s ∙ character_at-again c rest well f
     ]
+piece_at-again (Text bytes) rest well stops = ap text_at (append_assoc bytes (34 ∷ []) rest) ∙ text_at-again bytes rest well
 piece_at-again (Mark OpenParenthesis) rest well stops = rw stops refl
 piece_at-again (Mark CloseParenthesis) rest well stops = rw stops refl
 piece_at-again (Mark OpenBrace) rest well stops = rw stops refl
@@ -232,6 +242,24 @@ character_at-Stands (c ∷ quote ∷ rest) x e =
       | inr f ↦ plain_at-Stands c quote rest x (sym (second (c == 92) (escape_at (quote ∷ rest)) (cond ((quote == 39) && is_character c && not (c == 10)) (Some (Quoted c, rest)) None) f) ∙ e)
     ]
 
+closed_at-Stands : (text bytes behind : List ℕ) (x : Piece × List ℕ) → list_all is_point_byte text ≡ true → bytes ≡ text ++ behind → closed_at text behind ≡ Some x → Stands x.0 (34 ∷ bytes) x.1
+closed_at-Stands text bytes [] x all parts e = absurd cc
+closed_at-Stands text bytes (quote ∷ rest) x all parts e =
+    let s = cond_some (quote == 34) (Text text, rest) x e in
+    let last = same_byte quote 34 s.0 in
+    subst (λ (x : Piece × List ℕ). Stands x.0 (34 ∷ bytes) x.1) s.1
+    (record {
+      spelled = ap (λ (t : List ℕ). 34 ∷ t) (parts ∙ ap (λ (q : ℕ). text ++ q ∷ rest) last ∙ sym (append_assoc text (34 ∷ []) rest));
+      well = all;
+      stops = nothing_follows rest;
+    })
+
+text_at-Stands : (bytes : List ℕ) (x : Piece × List ℕ) → text_at bytes ≡ Some x → Stands x.0 (34 ∷ bytes) x.1
+unfolding text_at
+text_at-Stands bytes x e =
+    let n : ℕ = prefix_len is_point_byte bytes in
+    closed_at-Stands (take n bytes) bytes (drop n bytes) x (run_passes is_point_byte bytes) (sym (take-append-drop n bytes)) e
+
 pub piece_at-Stands : (bytes : List ℕ) (x : Piece × List ℕ) → piece_at bytes ≡ Some x → Stands x.0 bytes x.1
 unfolding piece_at
 piece_at-Stands [] x e = absurd cc
@@ -242,9 +270,12 @@ piece_at-Stands (b ∷ rest) x e =
         | inl t ↦ number_at-Stands (b ∷ rest) x (sym (piece_at-digit b rest t) ∙ e)
         | inr d ↦ elim (either (b == 39)) [
           | inl t ↦ let q : b ≡ 39 = same_byte b 39 t in rw q (character_at-Stands rest x (rw (w, d, t) at e))
-          | inr q ↦ elim (either (is_blank b)) [
-            | inl t ↦ subst (λ (x : Piece × List ℕ). Stands x.0 (b ∷ rest) x.1) (same_Some (Blank b, rest) x (rw (w, d, q, t) at e)) (record { spelled = refl; well = t; stops = nothing_follows rest })
-            | inr l ↦ sign_at-Stands (b ∷ rest) x (rw (w, d, q, l) at e)
+          | inr q ↦ elim (either (b == 34)) [
+            | inl t ↦ let k : b ≡ 34 = same_byte b 34 t in rw k (text_at-Stands rest x (rw (w, d, q, t) at e))
+            | inr k ↦ elim (either (is_blank b)) [
+              | inl t ↦ subst (λ (x : Piece × List ℕ). Stands x.0 (b ∷ rest) x.1) (same_Some (Blank b, rest) x (rw (w, d, q, k, t) at e)) (record { spelled = refl; well = t; stops = nothing_follows rest })
+              | inr l ↦ sign_at-Stands (b ∷ rest) x (rw (w, d, q, k, l) at e)
+            ]
           ]
         ]
       ]

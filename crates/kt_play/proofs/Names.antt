@@ -26,7 +26,7 @@ pub bytes_eq-differs : (a b : List ℕ) → (a ≡ b → ⊥) → bytes_eq a b �
 bytes_eq-differs a b differ =
     elim (either (bytes_eq a b)) [ inl t ↦ absurd (differ (same_bytes a b t)) | inr f ↦ f ]
 
-bytes_eq-no : (a b : List ℕ) → bytes_eq a b ≡ false → a ≡ b → ⊥
+pub bytes_eq-no : (a b : List ℕ) → bytes_eq a b ≡ false → a ≡ b → ⊥
 bytes_eq-no a b f e = let t : bytes_eq a b ≡ true = (bytes_eq-Decides a b).1 e in absurd cc
 
 -- a word that is not reserved is no reserved one

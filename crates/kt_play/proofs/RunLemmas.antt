@@ -1,142 +1,189 @@
--- One turn more, and the end by budget.
-use Rattle.std.specs.Prelude.{◌≡◌, ◌≢◌, ℕ, zero, suc, ◌+◌, ◌<◌, ◌≤◌, ◌==◌, ◌⊎◌, ◌&&◌, Bool, true, false, cond, List, [], ◌∷◌, Option, Some, None, is_none, replicate, refl}
+-- The machine stands for the world of the turns that it has taken.
+use Rattle.std.specs.Prelude.{◌≡◌, ℕ, zero, suc, ◌+◌, ◌-◌, ◌<◌, ◌≤◌, ◌==◌, ◌&&◌, List, [], ◌∷◌, length, map, Option, Some, None, is_some, Bool, true, false, not, replicate, slice_get, refl}
 use Rattle.std.proofs.Common.{arith, sym, subst, ap, ◌∙◌, inl, inr}
 use Rattle.std.proofs.lemmas.Bool.{eq-eqb}
 use Rattle.std.proofs.lemmas.Bool.Decides.{eqb_tells}
-use Rattle.kt_meaning.specs.declared.acts.Act.TheVariants.{Tick, Load, Store, Print}
-use Rattle.kt_meaning.specs.Steps.{Step, Quiet, Acts, Traps, Ends}
-use Rattle.kt_meaning.specs.Thread.{Work, settle}
+use Rattle.kt_meaning.specs.Steps.{DoesSameActs}
+use Rattle.kt_meaning.specs.Thread as tree
+use Rattle.kt_meaning.specs.Tree.{Version}
 use Rattle.kt_codegen.specs.declared.instr.Instr.{Instr}
-use Rattle.kt_play.specs.declared.end.End.{End}
-use Rattle.kt_play.specs.declared.end.End.TheVariants.{Budget}
-use Rattle.kt_play.specs.Machine.{Machine, StandsFor, HasActed, Advances}
+use Rattle.kt_codegen.specs.Machine.{State, machine_settle, start}
+use Rattle.kt_world.specs.declared.mark.End.{End}
+use Rattle.kt_world.specs.declared.mark.Mark.{Mark}
+use Rattle.kt_world.specs.declared.mark.Phase.{Phase}
+use Rattle.kt_world.specs.declared.mark.Phase.TheVariants.{Run, Asked, Main, Others}
+use Rattle.kt_world.specs.Job.{Job, version_at}
+use Rattle.kt_world.specs.World.{Engine, Shared, Thread, World}
+use Rattle.kt_world.specs.Turn.{is_parked, is_live, is_turnable, is_enabled, turn, entry_of, tree_engine, first_world, world_from, world, MayTurn, MayTurnAll}
+use Rattle.kt_world.specs.Same.{IsSameWorld, AreSameEngines, AreSameThreads, IsSameWorld-trans, turn-same, first_world-same}
+use Rattle.kt_world.specs.Kept.{world_from-keeps}
+use Rattle.kt_world.specs.WellFormed.{IsWellFormed}
+use Rattle.kt_world.specs.WellFormedLaws.{first_world-well_formed, IsWellFormed-kept}
+use Rattle.kt_play.specs.declared.machine.Machine.{Machine}
+use Rattle.kt_play.specs.Acts.{DoTheSameActs}
+use Rattle.kt_play.specs.Engine.{code_at, machine_engine, standing_of, thread_of, world_of, IsInState}
 use Rattle.kt_play.specs.Report.{HasRun}
-use Rattle.kt_play.specs.World.{World, act, counted, within_budget, MayTurn, turn, world_from, MayTurnAll, IsComplete}
+use Rattle.kt_play.proofs.UnderWay.{IsUnderWay, IsBetweenTurns, turn-between, first_world-between, first_world-goes_on}
 
 -- the world after n turns of thread 0
-abbrev pub after : ℕ → World → ℕ → World
-after budget first n = world_from budget first (replicate n 0)
+abbrev pub after : Job → ℕ → World tree.Work
+after job n = world job (replicate n 0)
 
-after-suc : (budget : ℕ) (first : World) (n : ℕ) → after budget first (suc n) ≡ turn budget (after budget first n)
-after-suc budget first zero = refl
-after-suc budget first (suc n) = after-suc budget (turn budget first) n
+module _ (job : Job) where
+  after-suc-from : (w : World tree.Work) (n : ℕ) →
+      world_from (tree_engine job) job w (replicate (suc n) 0) ≡ turn (tree_engine job) job (world_from (tree_engine job) job w (replicate n 0)) 0
+  after-suc-from w zero = refl
+  after-suc-from w (suc n) = after-suc-from (turn (tree_engine job) job w 0) n
 
-may_turn-suc : (budget : ℕ) (first : World) (n : ℕ) → MayTurnAll budget first (replicate n 0) → MayTurn (after budget first n) 0 →
-    MayTurnAll budget first (replicate (suc n) 0)
-may_turn-suc budget first zero all last = (last, tt)
-may_turn-suc budget first (suc n) all last = (all.0, may_turn-suc budget (turn budget first) n all.1 last)
+  may_turn-suc-from : (w : World tree.Work) (n : ℕ) → MayTurnAll (tree_engine job) job w (replicate n 0) →
+      MayTurn (world_from (tree_engine job) job w (replicate n 0)) 0 → MayTurnAll (tree_engine job) job w (replicate (suc n) 0)
+  may_turn-suc-from w zero all last = (last, tt)
+  may_turn-suc-from w (suc n) all last = (all.0, may_turn-suc-from (turn (tree_engine job) job w 0) n all.1 last)
 
--- the machine stands for the world after n turns, and no end holds before the budget is used up
-pub record HasReached (budget : ℕ) (first : World) (code : List Instr) (m : Machine) (n : ℕ) : Type 0 where
-  pub may_turn : MayTurnAll budget first (replicate n 0)
-  pub turns : (after budget first n).turns ≡ n
-  pub stands : StandsFor code m (after budget first n)
-  pub ongoing : n < budget → (after budget first n).ended ≡ None
-  pub over : n ≡ budget → (after budget first n).ended ≡ Some Budget
+  turnable : (phase : Phase) → is_turnable phase 0 ≡ true
+  turnable Run = refl
+  turnable Asked = refl
+  turnable Main = refl
+  turnable Others = refl
 
-pub at_first : (budget : ℕ) (first : World) (code : List Instr) (m : Machine) → 0 < budget → first.turns ≡ 0 → first.ended ≡ None →
-    StandsFor code m first → HasReached budget first code m 0
-at_first budget first code m h turns ongoing stands =
-    record { may_turn = tt; turns = turns; stands = stands; ongoing = λ _. ongoing; over = λ e. absurd (omega arith) }
+  enabled : (n : ℕ) (w : World tree.Work) → IsUnderWay job n w → w.shared.ended ≡ None → is_enabled w 0 ≡ true
+  enabled n w h on =
+      ap (λ (l : List (Thread tree.Work)). is_live (slice_get l 0) && is_turnable w.shared.phase 0) h.alone
+      ∙ ap (λ b. not b && is_turnable w.shared.phase 0) (h.live on) ∙ turnable w.shared.phase
 
-act-turns : (w : World) (s : Step Work) → (act w s).turns ≡ w.turns
-act-turns w (Quiet x) = refl
-act-turns w (Acts Tick go) = refl
-act-turns w (Acts (Load g) go) = refl
-act-turns w (Acts (Store g v) go) = refl
-act-turns w (Acts (Print b) go) = refl
-act-turns w (Traps t) = refl
-act-turns w (Ends v) = refl
+  same_engines : (codes : List (List Instr)) → DoTheSameActs job.versions codes → AreSameEngines (tree_engine job) (machine_engine codes) job
+  same_engines codes acts = record {
+    entries = λ n version is.
+        subst (λ (o : Option Version). DoesSameActs tree.settle (machine_settle (code_at codes n)) (entry_of o) start) (sym is) (acts n version is);
+  }
 
-strict : (turns n budget : ℕ) → turns ≡ suc n → n < budget → (suc n ≡ budget → ⊥) → turns < budget
-strict turns n budget e h k = omega (arith, k)
+-- the machine stands for the world after n turns
+pub record HasReached (job : Job) (codes : List (List Instr)) (m : Machine) (n : ℕ) : Type 0 where
+  pub may_turn : MayTurnAll (tree_engine job) job (first_world (tree_engine job) job) (replicate n 0)
+  pub between : IsBetweenTurns job n (after job n)
+  pub stands : IsSameWorld (tree_engine job) (machine_engine codes) (after job n) (world_of m)
+
+-- and the run goes on
+pub record GoesOn (job : Job) (codes : List (List Instr)) (m : Machine) : Type 0 where
+  pub reached : HasReached job codes m m.shared.turns
+  pub ongoing : m.shared.ended ≡ None
+  pub few : m.shared.turns < job.budget
 
 unequal : (a b : ℕ) → a < b → (a == b) ≡ false
 unequal a b h = elim (eqb_tells a b) [ inl is ↦ absurd (omega (arith, is.1)) | inr is_not ↦ is_not.0 ]
 
--- before the budget is used up, nothing ends a run that goes on
-within-ongoing : (budget : ℕ) (w : World) → w.ended ≡ None → w.turns < budget → within_budget budget w ≡ w
-within-ongoing budget w e h =
-    ap (λ (o : Option End). cond (is_none o && (w.turns == budget)) (record w { ended = Some Budget }) w) e
-    ∙ ap (λ t. cond t (record w { ended = Some Budget }) w) (unequal w.turns budget (omega arith))
+fewer : (a b : ℕ) → a ≤ b → (a == b) ≡ false → a < b
+fewer a b h tells = elim (eqb_tells a b) [ inl is ↦ absurd cc | inr is_not ↦ less a b h is_not.1 ]
+  where
+    less : (a b : ℕ) → a ≤ b → (a ≡ b → ⊥) → a < b
+    less a b h k = omega (arith, k)
 
-within-over : (budget : ℕ) (w : World) → w.ended ≡ None → w.turns ≡ budget → within_budget budget w ≡ record w { ended = Some Budget }
-within-over budget w e h =
-    ap (λ (o : Option End). cond (is_none o && (w.turns == budget)) (record w { ended = Some Budget }) w) e
-    ∙ ap (λ t. cond t (record w { ended = Some Budget }) w) (eq-eqb w.turns budget h)
+found : {A : Type 0} (l : List A) (i : ℕ) → i < length l → is_some (slice_get l i) ≡ true
+found [] i h = absurd (omega arith)
+found (x ∷ l) zero h = refl
+found (x ∷ l) (suc i) h = found l i (omega arith)
 
-within-ended : (budget : ℕ) (w : World) (how : End) → w.ended ≡ Some how → within_budget budget w ≡ w
-within-ended budget w how e =
-    ap (λ (o : Option End). cond (is_none o && (w.turns == budget)) (record w { ended = Some Budget }) w) e
+unparked : (b : Bool) → is_parked (standing_of b) ≡ false → b ≡ false
+unparked true h = absurd cc
+unparked false h = refl
 
--- what holds of the world v holds after n + 1 turns, where v is that world
-reached_as : (budget : ℕ) (first : World) (code : List Instr) (m : Machine) (n : ℕ) (v : World) → after budget first n ≡ v →
-    MayTurnAll budget first (replicate n 0) → v.turns ≡ n → StandsFor code m v → (n < budget → v.ended ≡ None) →
-    (n ≡ budget → v.ended ≡ Some Budget) → HasReached budget first code m n
-reached_as budget first code m n v e may turns stands ongoing over = record {
-  may_turn = may;
-  turns = ap (λ (w : World). w.turns) e ∙ turns;
-  stands = subst (StandsFor code m) (sym e) stands;
-  ongoing = λ h. ap (λ (w : World). w.ended) e ∙ ongoing h;
-  over = λ h. ap (λ (w : World). w.ended) e ∙ over h;
-}
+module _ (job : Job) (codes : List (List Instr)) where
+  version-within : (n : ℕ) → 0 < length job.versions → (after job n).shared.version < length job.versions
+  version-within n some =
+      (world_from-keeps (tree_engine job) job (IsWellFormed job) (IsWellFormed-kept job (tree_engine job)) (replicate n 0) (first_world (tree_engine job) job)
+      (first_world-well_formed job (tree_engine job))).version some
 
-may_go_on : (budget : ℕ) (first : World) (code : List Instr) (m : Machine) (n : ℕ) → n < budget → HasReached budget first code m n →
-    MayTurnAll budget first (replicate (suc n) 0)
-may_go_on budget first code m n h r = may_turn-suc budget first n r.may_turn (refl, r.ongoing h)
+  module _ (m : Machine) (n : ℕ) (r : HasReached job codes m n) where
+    machine-turns : m.shared.turns ≡ n
+    machine-turns = ap (λ (s : Shared). s.turns) (sym r.stands.shared) ∙ r.between.under_way.turns
 
-one_more : (budget : ℕ) (first : World) (code : List Instr) (m m' : Machine) (n : ℕ) → n < budget → HasReached budget first code m n →
-    HasActed code m' None (act (after budget first n) (settle (after budget first n).thread)) → HasReached budget first code m' (suc n)
-one_more budget first code m m' n h r a =
-    let w : World = after budget first n in
-    let u : World = counted (act w (settle w.thread)) in
-    let acted = act-turns w (settle w.thread) in
-    let before = r.turns in
-    let turns : u.turns ≡ suc n = omega arith in
-    let s = a.stands refl in
-    let stands : StandsFor code m' u = record { memory = s.memory; output = s.output; thread = s.thread } in
-    let may = may_go_on budget first code m n h r in
-    elim (eqb_tells (suc n) budget) [
-      | inl is ↦ reached_as budget first code m' (suc n) (record u { ended = Some Budget })
-          (after-suc budget first n ∙ within-over budget u a.ended (turns ∙ is.1)) may turns
-          (record { memory = s.memory; output = s.output; thread = s.thread }) (λ k. absurd (omega (arith, is.1))) (λ k. refl)
-      | inr is_not ↦ reached_as budget first code m' (suc n) u
-          (after-suc budget first n ∙ within-ongoing budget u a.ended (strict u.turns n budget turns h is_not.1)) may turns
-          stands (λ k. a.ended) (λ k. absurd (is_not.1 k))
-    ]
+    pub machine-version : 0 < length job.versions → m.shared.version < length job.versions
+    machine-version some = subst (λ (s : Shared). s.version < length job.versions) r.stands.shared (version-within n some)
 
--- an act that ends the run completes it
-ended_by_act : (budget : ℕ) (first : World) (code : List Instr) (m m' : Machine) (n : ℕ) (how : End) → n < budget →
-    HasReached budget first code m n → HasActed code m' (Some how) (act (after budget first n) (settle (after budget first n).thread)) →
-    IsComplete budget first (replicate (suc n) 0) how × (m'.output ≡ (after budget first (suc n)).output)
-ended_by_act budget first code m m' n how h r a =
-    let w : World = after budget first n in
-    let u : World = counted (act w (settle w.thread)) in
-    let e : after budget first (suc n) ≡ u = after-suc budget first n ∙ within-ended budget u how a.ended in (
-      record { may_turn = may_go_on budget first code m n h r; ended = ap (λ (v : World). v.ended) e ∙ a.ended },
-      a.output ∙ sym (ap (λ (v : World). v.output) e),
-    )
+    world-ended : (o : Option End) → m.shared.ended ≡ o → (after job n).shared.ended ≡ o
+    world-ended o is = ap (λ (s : Shared). s.ended) r.stands.shared ∙ is
 
-pub ran_to_act : (budget : ℕ) (first : World) (code : List Instr) (m m' : Machine) (n : ℕ) (how : End) → (o : Option End) (output : List ℕ) → n < budget →
-    HasReached budget first code m n → Advances code m m' o → o ≡ Some how → output ≡ m'.output → HasRun budget first (n + 1) how output
-ran_to_act budget first code m m' n how o output h r any e_how e_output =
-    let advances : Advances code m m' (Some how) = subst (λ (p : Option End). Advances code m m' p) e_how any in
-    let done = ended_by_act budget first code m m' n how h r (advances (after budget first n) r.stands (r.ongoing h)) in
-    let e : suc n ≡ n + 1 = omega arith in
-    subst (λ (k : ℕ). HasRun budget first k how output) e
-    (record { some = omega arith; complete = done.0; output_is = e_output ∙ done.1 })
+    pub machine-live : m.shared.ended ≡ None → m.parked ≡ false
+    machine-live on =
+        let u = r.between.under_way in
+        let one = subst (λ (l : List (Thread tree.Work)). AreSameThreads tree.settle (machine_settle (code_at codes m.shared.version)) l (thread_of m ∷ []))
+        u.alone r.stands.threads in
+        unparked m.parked (ap is_parked (sym one.0.standing) ∙ u.live (world-ended None on))
 
--- and so does the last turn of the budget
-pub ran_to_budget : (budget : ℕ) (first : World) (code : List Instr) (m : Machine) → 0 < budget → HasReached budget first code m budget →
-    HasRun budget first budget Budget m.output
-ran_to_budget budget first code m h r =
-    record { some = h; complete = record { may_turn = r.may_turn; ended = r.over refl }; output_is = r.stands.output }
+  module _ (acts : DoTheSameActs job.versions codes) where
+    reached : (m : Machine) → world_of m ≡ first_world (machine_engine codes) job → (o : Option Version) → version_at job 0 ≡ o →
+        is_some o ≡ true → HasReached job codes m 0
+    reached m first None is some = absurd cc
+    reached m first (Some version) is some = record {
+      may_turn = tt;
+      between = first_world-between job (tree_engine job);
+      stands =
+          subst (λ (v : World State). IsSameWorld (tree_engine job) (machine_engine codes) (first_world (tree_engine job) job) v) (sym first)
+          (first_world-same (tree_engine job) (machine_engine codes) job version (same_engines job codes acts) is);
+    }
 
--- an act that does not end the run leads one turn on
-pub went_on : (budget : ℕ) (first : World) (code : List Instr) (m m' : Machine) (n : ℕ) (o : Option End) → n < budget →
-    HasReached budget first code m n → Advances code m m' o → o ≡ None → HasReached budget first code m' (n + 1)
-went_on budget first code m m' n o h r any none =
-    let advances : Advances code m m' None = subst (λ (p : Option End). Advances code m m' p) none any in
-    let e : suc n ≡ n + 1 = omega arith in
-    subst (λ (k : ℕ). HasReached budget first code m' k) e
-    (one_more budget first code m m' n h r (advances (after budget first n) r.stands (r.ongoing h)))
+    pub at_first : (m : Machine) → 0 < length job.versions → 0 < job.budget → world_of m ≡ first_world (machine_engine codes) job → GoesOn job codes m
+    at_first m some budget is =
+        let r = reached m is (version_at job 0) refl (found job.versions 0 some) in
+        let turns = machine-turns m 0 r in
+        record {
+          reached = subst (HasReached job codes m) (sym turns) r;
+          ongoing = ap (λ (s : Shared). s.ended) (sym r.stands.shared) ∙ first_world-goes_on job (tree_engine job) (unequal 0 job.budget budget);
+          few = omega arith;
+        }
+
+    pub turned : (m m' : Machine) → 0 < length job.versions → GoesOn job codes m →
+        IsInState codes (turn (machine_engine codes) job (world_of m) 0) (world_of m') → HasReached job codes m' (suc m.shared.turns)
+    turned m m' some g now =
+        let n = m.shared.turns in
+        let w = after job n in
+        let on = world-ended m n g.reached None g.ongoing in
+        let version = found job.versions w.shared.version (version-within n some) in
+        let under_way = g.reached.between.under_way in
+        let e : n + 1 ≡ suc n = omega arith in
+        record {
+          may_turn = may_turn-suc-from job (first_world (tree_engine job) job) n g.reached.may_turn (enabled job n w under_way on, on);
+          between =
+              subst (λ (v : World tree.Work). IsBetweenTurns job (suc n) v) (sym (after-suc-from job (first_world (tree_engine job) job) n))
+              (subst (λ k. IsBetweenTurns job k (turn (tree_engine job) job w 0)) e
+              (turn-between job (tree_engine job) n w under_way on version));
+          stands =
+              subst (λ (v : World tree.Work). IsSameWorld (tree_engine job) (machine_engine codes) v (world_of m'))
+              (sym (after-suc-from job (first_world (tree_engine job) job) n))
+              (IsSameWorld-trans (tree_engine job) (machine_engine codes) (machine_engine codes)
+              (turn (tree_engine job) job w 0) (turn (machine_engine codes) job (world_of m) 0) (world_of m')
+              (turn-same (tree_engine job) (machine_engine codes) job (same_engines job codes acts) w (world_of m) 0 g.reached.stands)
+              now);
+        }
+
+  -- fewer turns are left
+  pub nearer : (m m' : Machine) → GoesOn job codes m → HasReached job codes m' (suc m.shared.turns) →
+      job.budget - m'.shared.turns < job.budget - m.shared.turns
+  nearer m m' g r =
+      let turns = machine-turns m' (suc m.shared.turns) r in
+      let few = g.few in
+      omega arith
+
+  pub goes_on : (m m' : Machine) → GoesOn job codes m → HasReached job codes m' (suc m.shared.turns) → m'.shared.ended ≡ None → GoesOn job codes m'
+  goes_on m m' g r on =
+      let turns = machine-turns m' (suc m.shared.turns) r in
+      let few = g.few in
+      let less : suc m.shared.turns < job.budget =
+      fewer (suc m.shared.turns) job.budget (omega arith) (r.between.few (world-ended m' (suc m.shared.turns) r None on)) in
+      record {
+        reached = subst (HasReached job codes m') (sym turns) r;
+        ongoing = on;
+        few = omega arith;
+      }
+
+  pub ran : (m m' : Machine) (turns : ℕ) (how : End) (output : List ℕ) (marks : List Mark) → GoesOn job codes m →
+      HasReached job codes m' (suc m.shared.turns) → m'.shared.ended ≡ Some how → turns ≡ m'.shared.turns → output ≡ m'.shared.output →
+      marks ≡ m'.shared.marks → HasRun job turns how output marks
+  ran m m' turns how output marks g r over e_turns e_output e_marks =
+      subst (λ k. HasRun job k how output marks) (sym (e_turns ∙ machine-turns m' (suc m.shared.turns) r))
+      (record {
+        some = omega arith;
+        complete = record { may_turn = r.may_turn; ended = world-ended m' (suc m.shared.turns) r (Some how) over };
+        output_is = e_output ∙ ap (λ (s : Shared). s.output) (sym r.stands.shared);
+        marks_are = e_marks ∙ ap (λ (s : Shared). s.marks) (sym r.stands.shared);
+      })

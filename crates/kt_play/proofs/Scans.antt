@@ -9,7 +9,7 @@ use Rattle.kt_play.specs.declared.form.token.Token.{Token}
 use Rattle.kt_play.specs.declared.form.token.Sign.TheVariants.{OpenParenthesis, CloseParenthesis, OpenBrace, CloseBrace, Semicolon, Assign, Equal, Plus, Minus, Less}
 use Rattle.kt_play.specs.declared.form.fault.Fault.{Fault}
 use Rattle.kt_play.specs.declared.form.fault.Fault.TheVariants.{NoMemory, OutsideForm}
-use Rattle.kt_play.specs.Pieces.{Piece, Blank, Letters, Digits, Quoted, Mark, is_well_spelled, spelling, goes_on, text_of, ArePieces, IsText, token_of, tokens_of, HasTokens}
+use Rattle.kt_play.specs.Pieces.{Piece, Blank, Letters, Digits, Quoted, Text, Mark, is_well_spelled, spelling, goes_on, text_of, ArePieces, IsText, token_of, tokens_of, HasTokens}
 use Rattle.kt_play.specs.Reading.{Fails, WhenOutside, as_token, piece_at}
 use Rattle.kt_play.proofs.Fronts.{Stands, piece_at-again, piece_at-Stands}
 
@@ -20,6 +20,7 @@ piece_size (Letters (b ∷ word)) well = omega arith
 piece_size (Digits []) well = absurd cc
 piece_size (Digits (d ∷ ds)) well = omega arith
 piece_size (Quoted c) well = omega arith
+piece_size (Text bytes) well = omega arith
 piece_size (Mark OpenParenthesis) well = omega arith
 piece_size (Mark CloseParenthesis) well = omega arith
 piece_size (Mark OpenBrace) well = omega arith
@@ -38,6 +39,7 @@ piece_takes (Letters (b ∷ word)) well = omega arith
 piece_takes (Digits []) well = absurd cc
 piece_takes (Digits (d ∷ ds)) well = omega arith
 piece_takes (Quoted c) well = omega arith
+piece_takes (Text bytes) well = omega arith
 piece_takes (Mark sign) well = let s = piece_size (Mark sign) well in omega arith
 
 -- a piece before a text

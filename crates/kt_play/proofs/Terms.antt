@@ -13,12 +13,13 @@ use Rattle.kt_meaning.specs.declared.tree.Global.{Global}
 use Rattle.kt_play.specs.declared.form.token.Sign.{Sign}
 use Rattle.kt_play.specs.declared.form.token.Sign.TheVariants.{OpenParenthesis, CloseParenthesis, OpenBrace, CloseBrace, Semicolon, Assign, Equal, Plus, Minus, Less}
 use Rattle.kt_play.specs.declared.form.token.Token.{Token}
-use Rattle.kt_play.specs.declared.form.token.Token.TheVariants.{Word, Number, Character, Mark}
+use Rattle.kt_play.specs.declared.form.token.Token.TheVariants.{Word, Number, Character, Text, Mark}
 use Rattle.kt_play.specs.declared.form.head.Head.{Head}
 use Rattle.kt_play.specs.declared.form.head.Head.TheVariants as head
-use Rattle.kt_play.specs.Form.{name_of, operand_token, operator_sign, expr_tokens, parenthesised, is_reserved, place_of, AreNamed, IsDeclaredOperand, IsDeclaredExpr}
-use Rattle.kt_play.specs.Reading.{◌>>=◌, operand_at, operator_of, operator_at, binary_at, expr_at, behind_semicolon, behind_close, behind_open, behind_brace, behind_assign, behind_last_brace, ended_at, parenthesised_at, condition_at, put_at, assign_at, worded_at, head_at}
+use Rattle.kt_play.specs.Form.{name_of, point_of, operand_token, operator_sign, expr_tokens, parenthesised, is_reserved, place_of, AreNamed, IsDeclaredOperand, IsDeclaredExpr}
+use Rattle.kt_play.specs.Reading.{◌>>=◌, operand_at, operator_of, operator_at, binary_at, expr_at, behind_semicolon, behind_close, behind_open, behind_brace, behind_assign, behind_last_brace, ended_at, parenthesised_at, condition_at, put_at, assign_at, point_at, update_at, automigrate_at, call_at, worded_at, head_at}
 use Rattle.kt_play.proofs.Fronts.{either, first, second}
+use Rattle.kt_play.proofs.Points.{AreDistinct, PointStands, point_at-is, point_at-again}
 use Rattle.kt_play.proofs.Names.{place_of-is, place_of-again, is_reserved-name_of, bytes_eq-is, bytes_eq-unreserved}
 
 -- the value of a step that gave one
@@ -98,6 +99,7 @@ operand_at-is globals (Word word ∷ rest) x e =
     let p = place_of-is globals word s.value s.gave in
     subst (OperandStands globals (Word word ∷ rest)) (same_Some (operand.Global s.value, rest) x s.then_gave)
     (record { parts = ap (λ (w : List ℕ). Word w ∷ rest) (sym p.1); declared = p.0 })
+operand_at-is globals (Text bytes ∷ rest) x e = absurd cc
 operand_at-is globals (Mark s ∷ rest) x e = absurd cc
 
 operand_at-again : (globals : List Global) (a : Operand) (rest : List Token) → AreNamed globals → IsDeclaredOperand (length globals) a → operand_at globals (operand_token globals a ∷ rest) ≡ Some (a, rest)
@@ -183,57 +185,63 @@ parenthesised_at-again globals e rest named declared =
 
 -- ---- heads
 
-abbrev pub head_tokens : List Global → Head → List Token
-head_tokens globals (head.Assign n e) = Word (name_of globals n) ∷ Mark Assign ∷ expr_tokens globals e ++ Mark Semicolon ∷ []
-head_tokens globals (head.Put e) = Word (codes "putchar") ∷ parenthesised globals e ++ Mark Semicolon ∷ []
-head_tokens globals (head.Return e) = Word (codes "return") ∷ expr_tokens globals e ++ Mark Semicolon ∷ []
-head_tokens globals (head.If e) = Word (codes "if") ∷ parenthesised globals e ++ Mark OpenBrace ∷ []
-head_tokens globals (head.While e) = Word (codes "while") ∷ parenthesised globals e ++ Mark OpenBrace ∷ []
+abbrev pub head_tokens : List Global → List (List ℕ) → Head → List Token
+head_tokens globals points (head.Assign n e) = Word (name_of globals n) ∷ Mark Assign ∷ expr_tokens globals e ++ Mark Semicolon ∷ []
+head_tokens globals points (head.Put e) = Word (codes "putchar") ∷ parenthesised globals e ++ Mark Semicolon ∷ []
+head_tokens globals points (head.Return e) = Word (codes "return") ∷ expr_tokens globals e ++ Mark Semicolon ∷ []
+head_tokens globals points (head.Update n) =
+    Word (codes "kitsune_update") ∷ Mark OpenParenthesis ∷ Text (point_of points n) ∷ Mark CloseParenthesis ∷ Mark Semicolon ∷ []
+head_tokens globals points head.Automigrate =
+    Word (codes "kitsune_do_automigrate") ∷ Mark OpenParenthesis ∷ Mark CloseParenthesis ∷ Mark Semicolon ∷ []
+head_tokens globals points (head.If e) = Word (codes "if") ∷ parenthesised globals e ++ Mark OpenBrace ∷ []
+head_tokens globals points (head.While e) = Word (codes "while") ∷ parenthesised globals e ++ Mark OpenBrace ∷ []
 
-abbrev pub IsDeclaredHead : ℕ → Head → Type 0
-IsDeclaredHead count (head.Assign n e) = (n < count) × IsDeclaredExpr count e
-IsDeclaredHead count (head.Put e) = IsDeclaredExpr count e
-IsDeclaredHead count (head.Return e) = IsDeclaredExpr count e
-IsDeclaredHead count (head.If e) = IsDeclaredExpr count e
-IsDeclaredHead count (head.While e) = IsDeclaredExpr count e
+abbrev pub IsDeclaredHead : ℕ → ℕ → Head → Type 0
+IsDeclaredHead count points (head.Assign n e) = (n < count) × IsDeclaredExpr count e
+IsDeclaredHead count points (head.Put e) = IsDeclaredExpr count e
+IsDeclaredHead count points (head.Return e) = IsDeclaredExpr count e
+IsDeclaredHead count points (head.Update n) = n < points
+IsDeclaredHead count points head.Automigrate = Unit {0}
+IsDeclaredHead count points (head.If e) = IsDeclaredExpr count e
+IsDeclaredHead count points (head.While e) = IsDeclaredExpr count e
 
 -- the head stands before the rest, and what it names is declared
-pub record HeadStands (globals : List Global) (tokens : List Token) (x : Head × List Token) : Type 0 where
-  pub parts : tokens ≡ head_tokens globals x.0 ++ x.1
-  pub declared : IsDeclaredHead (length globals) x.0
+pub record HeadStands (globals : List Global) (points : List (List ℕ)) (tokens : List Token) (x : Head × List Token) : Type 0 where
+  pub parts : tokens ≡ head_tokens globals points x.0 ++ x.1
+  pub declared : IsDeclaredHead (length globals) (length points) x.0
 
 ended_parts : (globals : List Global) (front : List Token) (tokens : List Token) (x : Expr × List Token) → EndedStands globals tokens x
     → front ++ tokens ≡ (front ++ (expr_tokens globals x.0 ++ Mark Semicolon ∷ [])) ++ x.1
 ended_parts globals front tokens x p =
     ap (λ (t : List Token). front ++ t) (p.parts ∙ sym (append_assoc (expr_tokens globals x.0) (Mark Semicolon ∷ []) x.1)) ∙ sym (append_assoc front (expr_tokens globals x.0 ++ Mark Semicolon ∷ []) x.1)
 
-put_at-is : (globals : List Global) (tokens : List Token) (x : Head × List Token) → put_at globals tokens ≡ Some x → HeadStands globals (Word (codes "putchar") ∷ tokens) x
+put_at-is : (globals : List Global) (points : List (List ℕ)) (tokens : List Token) (x : Head × List Token) → put_at globals tokens ≡ Some x → HeadStands globals points (Word (codes "putchar") ∷ tokens) x
 unfolding put_at
-put_at-is globals tokens x e =
+put_at-is globals points tokens x e =
     let s = bind_some (parenthesised_at globals tokens) (λ e. behind_semicolon e.1 >>= λ rest. Some (head.Put e.0, rest)) x e in
     let t = bind_some (behind_semicolon s.value.1) (λ rest. Some (head.Put s.value.0, rest)) x s.then_gave in
     let p = parenthesised_at-is globals tokens s.value s.gave in
     let parts : tokens ≡ (parenthesised globals s.value.0 ++ Mark Semicolon ∷ []) ++ t.value =
     p.parts ∙ ap (λ (r : List Token). parenthesised globals s.value.0 ++ r) (behind_semicolon-is s.value.1 t.value t.gave) ∙ sym (append_assoc (parenthesised globals s.value.0) (Mark Semicolon ∷ []) t.value) in
-    subst (HeadStands globals (Word (codes "putchar") ∷ tokens)) (same_Some (head.Put s.value.0, t.value) x t.then_gave)
+    subst (HeadStands globals points (Word (codes "putchar") ∷ tokens)) (same_Some (head.Put s.value.0, t.value) x t.then_gave)
     (record { parts = ap (λ (t : List Token). Word (codes "putchar") ∷ t) parts; declared = p.declared })
 
-return_at-is : (globals : List Global) (tokens : List Token) (x : Head × List Token) → (ended_at globals tokens >>= λ e. Some (head.Return e.0, e.1)) ≡ Some x → HeadStands globals (Word (codes "return") ∷ tokens) x
-return_at-is globals tokens x e =
+return_at-is : (globals : List Global) (points : List (List ℕ)) (tokens : List Token) (x : Head × List Token) → (ended_at globals tokens >>= λ e. Some (head.Return e.0, e.1)) ≡ Some x → HeadStands globals points (Word (codes "return") ∷ tokens) x
+return_at-is globals points tokens x e =
     let s = bind_some (ended_at globals tokens) (λ e. Some (head.Return e.0, e.1)) x e in
     let p = ended_at-is globals tokens s.value s.gave in
-    subst (HeadStands globals (Word (codes "return") ∷ tokens)) (same_Some (head.Return s.value.0, s.value.1) x s.then_gave)
+    subst (HeadStands globals points (Word (codes "return") ∷ tokens)) (same_Some (head.Return s.value.0, s.value.1) x s.then_gave)
     (record { parts = ended_parts globals (Word (codes "return") ∷ []) tokens s.value p; declared = p.declared })
 
-assign_at-is : (globals : List Global) (word : List ℕ) (tokens : List Token) (x : Head × List Token) → assign_at globals word tokens ≡ Some x → HeadStands globals (Word word ∷ tokens) x
+assign_at-is : (globals : List Global) (points : List (List ℕ)) (word : List ℕ) (tokens : List Token) (x : Head × List Token) → assign_at globals word tokens ≡ Some x → HeadStands globals points (Word word ∷ tokens) x
 unfolding assign_at
-assign_at-is globals word tokens x e =
+assign_at-is globals points word tokens x e =
     let r = bind_some (place_of globals word) (λ n. behind_assign tokens >>= λ right. ended_at globals right >>= λ e. Some (head.Assign n e.0, e.1)) x e in
     let s = bind_some (behind_assign tokens) (λ right. ended_at globals right >>= λ e. Some (head.Assign r.value e.0, e.1)) x r.then_gave in
     let t = bind_some (ended_at globals s.value) (λ e. Some (head.Assign r.value e.0, e.1)) x s.then_gave in
     let n = place_of-is globals word r.value r.gave in
     let p = ended_at-is globals s.value t.value t.gave in
-    subst (HeadStands globals (Word word ∷ tokens)) (same_Some (head.Assign r.value t.value.0, t.value.1) x t.then_gave)
+    subst (HeadStands globals points (Word word ∷ tokens)) (same_Some (head.Assign r.value t.value.0, t.value.1) x t.then_gave)
     (record {
       parts = ap (λ (t : List Token). Word word ∷ t) (behind_assign-is tokens s.value s.gave) ∙ ap (λ (w : List ℕ). Word w ∷ Mark Assign ∷ s.value) (sym n.1) ∙ ended_parts globals (Word (name_of globals r.value) ∷ Mark Assign ∷ []) s.value t.value p;
       declared = (n.0, p.declared);
@@ -256,66 +264,125 @@ condition_at-is globals tokens x e =
       declared = p.declared;
     })
 
-if_at-is : (globals : List Global) (tokens : List Token) (x : Head × List Token) → (condition_at globals tokens >>= λ e. Some (head.If e.0, e.1)) ≡ Some x → HeadStands globals (Word (codes "if") ∷ tokens) x
-if_at-is globals tokens x e =
+if_at-is : (globals : List Global) (points : List (List ℕ)) (tokens : List Token) (x : Head × List Token) → (condition_at globals tokens >>= λ e. Some (head.If e.0, e.1)) ≡ Some x → HeadStands globals points (Word (codes "if") ∷ tokens) x
+if_at-is globals points tokens x e =
     let s = bind_some (condition_at globals tokens) (λ e. Some (head.If e.0, e.1)) x e in
     let p = condition_at-is globals tokens s.value s.gave in
-    subst (HeadStands globals (Word (codes "if") ∷ tokens)) (same_Some (head.If s.value.0, s.value.1) x s.then_gave)
+    subst (HeadStands globals points (Word (codes "if") ∷ tokens)) (same_Some (head.If s.value.0, s.value.1) x s.then_gave)
     (record { parts = ap (λ (t : List Token). Word (codes "if") ∷ t) p.parts; declared = p.declared })
 
-while_at-is : (globals : List Global) (tokens : List Token) (x : Head × List Token) → (condition_at globals tokens >>= λ e. Some (head.While e.0, e.1)) ≡ Some x → HeadStands globals (Word (codes "while") ∷ tokens) x
-while_at-is globals tokens x e =
+while_at-is : (globals : List Global) (points : List (List ℕ)) (tokens : List Token) (x : Head × List Token) → (condition_at globals tokens >>= λ e. Some (head.While e.0, e.1)) ≡ Some x → HeadStands globals points (Word (codes "while") ∷ tokens) x
+while_at-is globals points tokens x e =
     let s = bind_some (condition_at globals tokens) (λ e. Some (head.While e.0, e.1)) x e in
     let p = condition_at-is globals tokens s.value s.gave in
-    subst (HeadStands globals (Word (codes "while") ∷ tokens)) (same_Some (head.While s.value.0, s.value.1) x s.then_gave)
+    subst (HeadStands globals points (Word (codes "while") ∷ tokens)) (same_Some (head.While s.value.0, s.value.1) x s.then_gave)
     (record { parts = ap (λ (t : List Token). Word (codes "while") ∷ t) p.parts; declared = p.declared })
 
-worded_at-is : (globals : List Global) (word : List ℕ) (tokens : List Token) (x : Head × List Token) → worded_at globals word tokens ≡ Some x → HeadStands globals (Word word ∷ tokens) x
+update_at-is : (globals : List Global) (points : List (List ℕ)) (tokens : List Token) (x : Head × List Token) → update_at points tokens ≡ Some x → HeadStands globals points (Word (codes "kitsune_update") ∷ tokens) x
+unfolding update_at
+update_at-is globals points tokens x e =
+    let r = bind_some (behind_open tokens) (λ inner. point_at points inner >>= λ p. behind_close p.1 >>= λ rest. behind_semicolon rest >>= λ after. Some (head.Update p.0, after)) x e in
+    let s = bind_some (point_at points r.value) (λ p. behind_close p.1 >>= λ rest. behind_semicolon rest >>= λ after. Some (head.Update p.0, after)) x r.then_gave in
+    let t = bind_some (behind_close s.value.1) (λ rest. behind_semicolon rest >>= λ after. Some (head.Update s.value.0, after)) x s.then_gave in
+    let u = bind_some (behind_semicolon t.value) (λ after. Some (head.Update s.value.0, after)) x t.then_gave in
+    let p = point_at-is points r.value s.value s.gave in
+    let end : s.value.1 ≡ Mark CloseParenthesis ∷ Mark Semicolon ∷ u.value =
+    behind_close-is s.value.1 t.value t.gave ∙ ap (λ (t : List Token). Mark CloseParenthesis ∷ t) (behind_semicolon-is t.value u.value u.gave) in
+    subst (HeadStands globals points (Word (codes "kitsune_update") ∷ tokens)) (same_Some (head.Update s.value.0, u.value) x u.then_gave)
+    (record {
+      parts = ap (λ (t : List Token). Word (codes "kitsune_update") ∷ t) (behind_open-is tokens r.value r.gave ∙ ap (λ (t : List Token). Mark OpenParenthesis ∷ t) (p.parts ∙ ap (λ (t : List Token). Text (point_of points s.value.0) ∷ t) end));
+      declared = p.declared;
+    })
+
+automigrate_at-is : (globals : List Global) (points : List (List ℕ)) (tokens : List Token) (x : Head × List Token) → automigrate_at tokens ≡ Some x → HeadStands globals points (Word (codes "kitsune_do_automigrate") ∷ tokens) x
+unfolding automigrate_at
+automigrate_at-is globals points tokens x e =
+    let r = bind_some (behind_open tokens) (λ inner. behind_close inner >>= λ rest. behind_semicolon rest >>= λ after. Some (head.Automigrate, after)) x e in
+    let s = bind_some (behind_close r.value) (λ rest. behind_semicolon rest >>= λ after. Some (head.Automigrate, after)) x r.then_gave in
+    let t = bind_some (behind_semicolon s.value) (λ after. Some (head.Automigrate, after)) x s.then_gave in
+    subst (HeadStands globals points (Word (codes "kitsune_do_automigrate") ∷ tokens)) (same_Some (head.Automigrate, t.value) x t.then_gave)
+    (record {
+      parts = ap (λ (t : List Token). Word (codes "kitsune_do_automigrate") ∷ t) (behind_open-is tokens r.value r.gave ∙ ap (λ (t : List Token). Mark OpenParenthesis ∷ t) (behind_close-is r.value s.value s.gave ∙ ap (λ (t : List Token). Mark CloseParenthesis ∷ t) (behind_semicolon-is s.value t.value t.gave)));
+      declared = tt;
+    })
+
+call_at-is : (globals : List Global) (points : List (List ℕ)) (word : List ℕ) (tokens : List Token) (x : Head × List Token) → call_at points globals word tokens ≡ Some x → HeadStands globals points (Word word ∷ tokens) x
+unfolding call_at
+call_at-is globals points word tokens x e =
+    let back : (k : List ℕ) → bytes_eq word k ≡ true → HeadStands globals points (Word k ∷ tokens) x → HeadStands globals points (Word word ∷ tokens) x
+    = λ k t h. subst (λ (w : List ℕ). HeadStands globals points (Word w ∷ tokens) x) (sym (bytes_eq-is word k t)) h in
+    elim (either (bytes_eq word (codes "kitsune_update"))) [
+      | inl t ↦ back (codes "kitsune_update") t (update_at-is globals points tokens x (rw t at e))
+      | inr a ↦ elim (either (bytes_eq word (codes "kitsune_do_automigrate"))) [
+        | inl t ↦ back (codes "kitsune_do_automigrate") t (automigrate_at-is globals points tokens x (rw (a, t) at e))
+        | inr b ↦ assign_at-is globals points word tokens x (rw (a, b) at e)
+      ]
+    ]
+
+worded_at-is : (globals : List Global) (points : List (List ℕ)) (word : List ℕ) (tokens : List Token) (x : Head × List Token) → worded_at globals points word tokens ≡ Some x → HeadStands globals points (Word word ∷ tokens) x
 unfolding worded_at
-worded_at-is globals word tokens x e =
-    let back : (k : List ℕ) → bytes_eq word k ≡ true → HeadStands globals (Word k ∷ tokens) x → HeadStands globals (Word word ∷ tokens) x
-    = λ k t h. subst (λ (w : List ℕ). HeadStands globals (Word w ∷ tokens) x) (sym (bytes_eq-is word k t)) h in
+worded_at-is globals points word tokens x e =
+    let back : (k : List ℕ) → bytes_eq word k ≡ true → HeadStands globals points (Word k ∷ tokens) x → HeadStands globals points (Word word ∷ tokens) x
+    = λ k t h. subst (λ (w : List ℕ). HeadStands globals points (Word w ∷ tokens) x) (sym (bytes_eq-is word k t)) h in
     elim (either (bytes_eq word (codes "putchar"))) [
-      | inl t ↦ back (codes "putchar") t (put_at-is globals tokens x (rw t at e))
+      | inl t ↦ back (codes "putchar") t (put_at-is globals points tokens x (rw t at e))
       | inr a ↦ elim (either (bytes_eq word (codes "return"))) [
-        | inl t ↦ back (codes "return") t (return_at-is globals tokens x (rw (a, t) at e))
+        | inl t ↦ back (codes "return") t (return_at-is globals points tokens x (rw (a, t) at e))
         | inr b ↦ elim (either (bytes_eq word (codes "if"))) [
-          | inl t ↦ back (codes "if") t (if_at-is globals tokens x (rw (a, b, t) at e))
+          | inl t ↦ back (codes "if") t (if_at-is globals points tokens x (rw (a, b, t) at e))
           | inr c ↦ elim (either (bytes_eq word (codes "while"))) [
-            | inl t ↦ back (codes "while") t (while_at-is globals tokens x (rw (a, b, c, t) at e))
-            | inr d ↦ assign_at-is globals word tokens x (rw (a, b, c, d) at e)
+            | inl t ↦ back (codes "while") t (while_at-is globals points tokens x (rw (a, b, c, t) at e))
+            | inr d ↦ call_at-is globals points word tokens x (rw (a, b, c, d) at e)
           ]
         ]
       ]
     ]
 
-pub head_at-is : (globals : List Global) (tokens : List Token) (x : Head × List Token) → head_at globals tokens ≡ Some x → HeadStands globals tokens x
+pub head_at-is : (globals : List Global) (points : List (List ℕ)) (tokens : List Token) (x : Head × List Token) → head_at globals points tokens ≡ Some x → HeadStands globals points tokens x
 unfolding head_at
-head_at-is globals (Word word ∷ rest) x e = worded_at-is globals word rest x e
-head_at-is globals _ x e = absurd cc
+head_at-is globals points (Word word ∷ rest) x e = worded_at-is globals points word rest x e
+head_at-is globals points _ x e = absurd cc
 
 -- ---- heads again
 
-reserved_words_of_heads : (is_reserved (codes "putchar") ≡ true) × (is_reserved (codes "return") ≡ true) × (is_reserved (codes "if") ≡ true) × (is_reserved (codes "while") ≡ true)
+-- the words that begin a statement are reserved
+record AreReserved : Type 0 where
+  pub putchar : is_reserved (codes "putchar") ≡ true
+  pub returns : is_reserved (codes "return") ≡ true
+  pub choice : is_reserved (codes "if") ≡ true
+  pub loops : is_reserved (codes "while") ≡ true
+  pub update : is_reserved (codes "kitsune_update") ≡ true
+  pub automigrate : is_reserved (codes "kitsune_do_automigrate") ≡ true
+
+are_reserved : AreReserved
 unfolding is_reserved
-reserved_words_of_heads = (refl, refl, refl, refl)
+are_reserved = record { putchar = refl; returns = refl; choice = refl; loops = refl; update = refl; automigrate = refl }
 
-worded_at-unreserved : (globals : List Global) (word : List ℕ) (tokens : List Token) → is_reserved word ≡ false → worded_at globals word tokens ≡ assign_at globals word tokens
-unfolding worded_at
-worded_at-unreserved globals word tokens free =
-    let r = reserved_words_of_heads in
-    rw (bytes_eq-unreserved word (codes "putchar") free r.0, bytes_eq-unreserved word (codes "return") free r.1, bytes_eq-unreserved word (codes "if") free r.2, bytes_eq-unreserved word (codes "while") free r.3) refl
+worded_at-unreserved : (globals : List Global) (points : List (List ℕ)) (word : List ℕ) (tokens : List Token) → is_reserved word ≡ false → worded_at globals points word tokens ≡ assign_at globals word tokens
+unfolding worded_at call_at
+worded_at-unreserved globals points word tokens free =
+    let r = are_reserved in
+    rw (
+      bytes_eq-unreserved word (codes "putchar") free r.putchar,
+      bytes_eq-unreserved word (codes "return") free r.returns,
+      bytes_eq-unreserved word (codes "if") free r.choice,
+      bytes_eq-unreserved word (codes "while") free r.loops,
+      bytes_eq-unreserved word (codes "kitsune_update") free r.update,
+      bytes_eq-unreserved word (codes "kitsune_do_automigrate") free r.automigrate,
+    ) refl
 
-pub head_at-again : (globals : List Global) (h : Head) (rest : List Token) → AreNamed globals → IsDeclaredHead (length globals) h → head_at globals (head_tokens globals h ++ rest) ≡ Some (h, rest)
-unfolding head_at worded_at put_at assign_at condition_at behind_semicolon behind_brace behind_assign
-head_at-again globals (head.Assign n e) rest named declared =
-    worded_at-unreserved globals (name_of globals n) (Mark Assign ∷ (expr_tokens globals e ++ Mark Semicolon ∷ []) ++ rest) (is_reserved-name_of globals n named declared.0)
+pub head_at-again : (globals : List Global) (points : List (List ℕ)) (h : Head) (rest : List Token) → AreNamed globals → AreDistinct points → IsDeclaredHead (length globals) (length points) h → head_at globals points (head_tokens globals points h ++ rest) ≡ Some (h, rest)
+unfolding head_at worded_at call_at put_at assign_at condition_at update_at automigrate_at behind_open behind_close behind_semicolon behind_brace behind_assign
+head_at-again globals points (head.Assign n e) rest named distinct declared =
+    worded_at-unreserved globals points (name_of globals n) (Mark Assign ∷ (expr_tokens globals e ++ Mark Semicolon ∷ []) ++ rest) (is_reserved-name_of globals n named declared.0)
     ∙ rw (place_of-again globals n named declared.0, append_assoc (expr_tokens globals e) (Mark Semicolon ∷ []) rest, ended_at-again globals e rest named declared.1) refl
-head_at-again globals (head.Put e) rest named declared =
+head_at-again globals points (head.Put e) rest named distinct declared =
     rw (append_assoc (parenthesised globals e) (Mark Semicolon ∷ []) rest, parenthesised_at-again globals e (Mark Semicolon ∷ rest) named declared) refl
-head_at-again globals (head.Return e) rest named declared =
+head_at-again globals points (head.Return e) rest named distinct declared =
     rw (append_assoc (expr_tokens globals e) (Mark Semicolon ∷ []) rest, ended_at-again globals e rest named declared) refl
-head_at-again globals (head.If e) rest named declared =
+head_at-again globals points (head.If e) rest named distinct declared =
     rw (append_assoc (parenthesised globals e) (Mark OpenBrace ∷ []) rest, parenthesised_at-again globals e (Mark OpenBrace ∷ rest) named declared) refl
-head_at-again globals (head.While e) rest named declared =
+head_at-again globals points (head.While e) rest named distinct declared =
     rw (append_assoc (parenthesised globals e) (Mark OpenBrace ∷ []) rest, parenthesised_at-again globals e (Mark OpenBrace ∷ rest) named declared) refl
+head_at-again globals points (head.Update n) rest named distinct declared = rw (point_at-again points n (Mark CloseParenthesis ∷ Mark Semicolon ∷ rest) distinct declared) refl
+head_at-again globals points head.Automigrate rest named distinct declared = refl

@@ -3,29 +3,29 @@ use Rattle.std.specs.Prelude.{◌≡◌, ◌≢◌, ℕ, ◌⊎◌, ◌↔◌, L
 use Rattle.kt_edge.specs.Count.{Rose}
 use Rattle.kt_edge.specs.FileMap.{FileMap, Tells, Lacks}
 use Rattle.kt_edge.specs.Writes.{Writes, Takes, TakesOrFails}
-use Rattle.kt_play.specs.declared.end.End.{End}
+use Rattle.kt_world.specs.declared.mark.End.{End}
 use Rattle.kt_play.specs.declared.status.Cause.{Cause}
 use Rattle.kt_play.specs.declared.status.Cause.TheVariants.{Later}
 use Rattle.kt_play.specs.declared.status.Which.{Which}
 use Rattle.kt_play.specs.declared.status.Which.TheVariants.{File}
 use Rattle.kt_play.specs.declared.status.Status.{Status}
 use Rattle.kt_play.specs.declared.status.Status.TheVariants.{Words, ReadFault, Refused, WriteFault, NoMemory}
-use Rattle.kt_play.specs.Form.{Source, IsProgramText}
+use Rattle.kt_world.specs.Job.{Job}
+use Rattle.kt_world.specs.Turn.{IsComplete}
 use Rattle.std.specs.declared.alloc.Global.{Global}
 use Rattle.kt_play.specs.Order.{order_of, texts}
 use Rattle.kt_play.specs.declared.refusal.Refusal.{Refusal}
 use Rattle.kt_play.specs.declared.refusal.Refusal.TheVariants as refusal
 use Rattle.kt_play.specs.Outcome.{FailsToWrite, IsRefused}
-use Rattle.kt_play.specs.Run.{budget, first_world_of, IsRun, IsNamed, IsAccepted, IsOutsideForm, IsCause, IsOutcome}
+use Rattle.kt_play.specs.Run.{IsUnreadFile, IsRun, IsNamed, IsAccepted, IsOutsideForm, IsCause, IsOutcome}
 use Rattle.kt_play.specs.Status.{status_of, end_of, refusal_line}
-use Rattle.kt_play.specs.World.{IsComplete}
 
--- a run of the program that the words name: with the turns that its journal lists, it ends so, with this output
+-- a run of the job that the words name: with the turns that its journal lists, it ends so, with this output
 pub record IsRunOfWords (words : List (List ℕ)) (told : Option FileMap) (how : End) (output journal : List ℕ) : Type 0 where
-  pub source : Source
-  pub accepted : IsAccepted words told source
+  pub job : Job
+  pub accepted : IsAccepted words told job
   pub turns : List ℕ
-  pub run : IsRun source turns how output journal
+  pub run : IsRun job turns how output journal
 
 -- the headline: where the answer is an end, the sinks took the output and the journal of a run that ended so
 pub record HasPlayed (words : List (List ℕ)) (told : Option FileMap) (out log : Writes) (how : End) : Type 0 where
@@ -43,21 +43,21 @@ pub record HasFailed (words : List (List ℕ)) (told : Option FileMap) (out log 
   pub run : IsRunOfWords words told how output journal
   pub fails : FailsToWrite out log log_untouched output journal
 
--- the file that could not be read is the one that the words name: the count of faults rose, or the files told lack its name
+-- the file of that number could not be read: the count of faults rose, or the files told lack its name
 pub record IsUnread (words : List (List ℕ)) (told : Option FileMap) (before now : ℕ) (which : Which) : Type 0 where
-  pub file : which ≡ File 1
-  pub cause : IsNamed words (λ name. Rose before now ⊎ Lacks told name)
+  pub number : ℕ
+  pub file : which ≡ File number
+  pub cause : IsNamed words (IsUnreadFile told before now number)
 
--- the file that is refused is the one that the words name: it is the text of no program
+-- the file that is refused is the first that is not what it has to be
 pub record IsRefusedFile (words : List (List ℕ)) (told : Option FileMap) (file : ℕ) (cause : Cause) : Type 0 where
-  pub number : file ≡ 1
   pub later : cause ≡ Later 0
-  pub outside : IsNamed words (IsOutsideForm told)
+  pub outside : IsNamed words (IsOutsideForm told file)
 
--- the answer is the end of a complete list of turns of the program, or want of memory
-abbrev pub EndsOrLacksMemory : Source → Status → Type 0
-EndsOrLacksMemory source answer =
-    (answer ≡ NoMemory) ⊎ ((how : End) × (turns : List ℕ) × IsComplete budget (first_world_of source) turns how × (answer ≡ status_of how))
+-- the answer is the end of a complete list of turns of the job, or want of memory
+abbrev pub EndsOrLacksMemory : Job → Status → Type 0
+EndsOrLacksMemory job answer =
+    (answer ≡ NoMemory) ⊎ ((how : End) × (turns : List ℕ) × IsComplete job turns how × (answer ≡ status_of how))
 
 -- what a call is given and what it has changed: the words, the files told and their counts of faults, and the two sinks
 pub record Call : Type 0 where
@@ -68,11 +68,11 @@ pub record Call : Type 0 where
   pub out : Writes
   pub log : Writes
 
--- a program was accepted, and this has become of it
+-- a job was accepted, and this has become of it
 pub record IsRan (call : Call) (untouched log_untouched : Type 0) (answer : Status) : Type 0 where
-  pub source : Source
-  pub accepted : IsAccepted call.words call.told source
-  pub outcome : IsOutcome answer source call.out call.log untouched log_untouched
+  pub job : Job
+  pub accepted : IsAccepted call.words call.told job
+  pub outcome : IsOutcome answer job call.out call.log untouched log_untouched
 
 -- nothing was run, for this cause
 pub record IsTurnedAway (call : Call) (untouched log_untouched : Type 0) (answer : Status) : Type 0 where

@@ -1,5 +1,5 @@
--- Programs of the first form: globals of type `int`, and then `main`. What they spell, and what makes them well formed.
-use Rattle.std.specs.Prelude.{◌≡◌, ℕ, zero, suc, ◌+◌, ◌<◌, ◌≤◌, max, Bool, false, if◌then◌else◌, List, [], ◌∷◌, ◌++◌, length, codes, flat_map, slice_get, Option, Some, None, ℤ}
+-- Programs: globals of type `int`, and then `main`. What they spell, and what makes them well formed.
+use Rattle.std.specs.Prelude.{◌≡◌, ℕ, zero, suc, ◌+◌, ◌<◌, ◌≤◌, max, Bool, false, if◌then◌else◌, List, [], ◌∷◌, ◌++◌, length, codes, flat_map, filter, not, Option, Some, None, ℤ}
 use Rattle.std.specs.List.{list_any, position_from}
 use Rattle.std.specs.Str.{bytes_eq}
 use Rattle.kt_meaning.specs.declared.tree.Operand.{Operand}
@@ -9,21 +9,12 @@ use Rattle.kt_meaning.specs.declared.tree.Operator.TheVariants as operator
 use Rattle.kt_meaning.specs.declared.tree.Expr.{Expr}
 use Rattle.kt_meaning.specs.declared.tree.Expr.TheVariants.{Single, Binary}
 use Rattle.kt_meaning.specs.declared.tree.Global.{Global}
-use Rattle.kt_meaning.specs.declared.tree.Program.{Program}
-use Rattle.kt_meaning.specs.Tree.{Statement, Assigning, Putting, Returning, Choosing, Looping, Block, Empty, Then, block_of}
+use Rattle.kt_meaning.specs.Tree.{Statement, Assigning, Putting, Returning, Choosing, Looping, Reaching, Migrating, Block, Empty, Then, Version}
 use Rattle.kt_play.specs.declared.form.token.Sign.{Sign}
 use Rattle.kt_play.specs.declared.form.token.Sign.TheVariants.{OpenParenthesis, CloseParenthesis, OpenBrace, CloseBrace, Semicolon, Assign, Equal, Plus, Minus, Less}
 use Rattle.kt_play.specs.declared.form.token.Token.{Token}
-use Rattle.kt_play.specs.declared.form.token.Token.TheVariants.{Word, Number, Character, Mark}
+use Rattle.kt_play.specs.declared.form.token.Token.TheVariants.{Word, Number, Character, Text, Mark}
 use Rattle.kt_play.specs.Pieces.{HasTokens}
-
--- a program as plain data
-pub record Source : Type 0 where
-  pub globals : List Global
-  pub body : Block
-
-abbrev pub source_of : Program → Source
-source_of p = record { globals = p.globals; body = block_of p.body }
 
 -- ---- what a program spells
 
@@ -54,21 +45,31 @@ expr_tokens globals (Binary op a b) =
 abbrev pub parenthesised : List Global → Expr → List Token
 parenthesised globals e = Mark OpenParenthesis ∷ expr_tokens globals e ++ Mark CloseParenthesis ∷ []
 
+-- the name of an update point
+abbrev pub point_of : List (List ℕ) → ℕ → List ℕ
+point_of [] n = []
+point_of (p ∷ ps) zero = p
+point_of (p ∷ ps) (suc n) = point_of ps n
+
 -- statements and blocks (6.8)
 abbrev mutual
-  pub statement_tokens : List Global → Statement → List Token
-  statement_tokens globals (Assigning n e) =
+  pub statement_tokens : List Global → List (List ℕ) → Statement → List Token
+  statement_tokens globals points (Assigning n e) =
       Word (name_of globals n) ∷ Mark Assign ∷ expr_tokens globals e ++ Mark Semicolon ∷ []
-  statement_tokens globals (Putting e) = Word (codes "putchar") ∷ parenthesised globals e ++ Mark Semicolon ∷ []
-  statement_tokens globals (Returning e) = Word (codes "return") ∷ expr_tokens globals e ++ Mark Semicolon ∷ []
-  statement_tokens globals (Choosing e block) =
-      Word (codes "if") ∷ parenthesised globals e ++ Mark OpenBrace ∷ block_tokens globals block ++ Mark CloseBrace ∷ []
-  statement_tokens globals (Looping e block) =
-      Word (codes "while") ∷ parenthesised globals e ++ Mark OpenBrace ∷ block_tokens globals block ++ Mark CloseBrace ∷ []
+  statement_tokens globals points (Putting e) = Word (codes "putchar") ∷ parenthesised globals e ++ Mark Semicolon ∷ []
+  statement_tokens globals points (Returning e) = Word (codes "return") ∷ expr_tokens globals e ++ Mark Semicolon ∷ []
+  statement_tokens globals points (Choosing e block) =
+      Word (codes "if") ∷ parenthesised globals e ++ Mark OpenBrace ∷ block_tokens globals points block ++ Mark CloseBrace ∷ []
+  statement_tokens globals points (Looping e block) =
+      Word (codes "while") ∷ parenthesised globals e ++ Mark OpenBrace ∷ block_tokens globals points block ++ Mark CloseBrace ∷ []
+  statement_tokens globals points (Reaching n) =
+      Word (codes "kitsune_update") ∷ Mark OpenParenthesis ∷ Text (point_of points n) ∷ Mark CloseParenthesis ∷ Mark Semicolon ∷ []
+  statement_tokens globals points Migrating =
+      Word (codes "kitsune_do_automigrate") ∷ Mark OpenParenthesis ∷ Mark CloseParenthesis ∷ Mark Semicolon ∷ []
 
-  pub block_tokens : List Global → Block → List Token
-  block_tokens globals Empty = []
-  block_tokens globals (Then statement block) = statement_tokens globals statement ++ block_tokens globals block
+  pub block_tokens : List Global → List (List ℕ) → Block → List Token
+  block_tokens globals points Empty = []
+  block_tokens globals points (Then statement block) = statement_tokens globals points statement ++ block_tokens globals points block
 
 -- an initial value is an integer constant (6.7.9)
 abbrev pub initial_tokens : Option ℤ → List Token
@@ -84,14 +85,14 @@ abbrev pub parameter_tokens : Bool → List Token
 parameter_tokens with_void = if with_void then Word (codes "void") ∷ [] else []
 
 -- the definition of `main` with this body
-abbrev pub main_tokens : List Global → Bool → Block → List Token
-main_tokens globals with_void body =
+abbrev pub main_tokens : List Global → List (List ℕ) → Bool → Block → List Token
+main_tokens globals points with_void body =
     Word (codes "int") ∷ Word (codes "main") ∷ Mark OpenParenthesis ∷ parameter_tokens with_void
-    ++ Mark CloseParenthesis ∷ Mark OpenBrace ∷ block_tokens globals body ++ Mark CloseBrace ∷ []
+    ++ Mark CloseParenthesis ∷ Mark OpenBrace ∷ block_tokens globals points body ++ Mark CloseBrace ∷ []
 
 -- with_void: `main` is written with `void`
-abbrev pub source_tokens : Bool → Source → List Token
-source_tokens with_void s = flat_map global_tokens s.globals ++ main_tokens s.globals with_void s.body
+abbrev pub source_tokens : Bool → Version → List Token
+source_tokens with_void s = flat_map global_tokens s.globals ++ main_tokens s.globals s.points with_void s.body
 
 -- ---- what makes a program well formed
 
@@ -130,18 +131,20 @@ abbrev pub IsDeclaredExpr : ℕ → Expr → Type 0
 IsDeclaredExpr count (Single a) = IsDeclaredOperand count a
 IsDeclaredExpr count (Binary op a b) = IsDeclaredOperand count a × IsDeclaredOperand count b
 
--- each name that is used is declared
+-- each name that is used is one of `count` globals, and each point one of `points`
 abbrev mutual
-  pub IsDeclaredStatement : ℕ → Statement → Type 0
-  IsDeclaredStatement count (Assigning n e) = (n < count) × IsDeclaredExpr count e
-  IsDeclaredStatement count (Putting e) = IsDeclaredExpr count e
-  IsDeclaredStatement count (Returning e) = IsDeclaredExpr count e
-  IsDeclaredStatement count (Choosing e block) = IsDeclaredExpr count e × IsDeclared count block
-  IsDeclaredStatement count (Looping e block) = IsDeclaredExpr count e × IsDeclared count block
+  pub IsDeclaredStatement : ℕ → ℕ → Statement → Type 0
+  IsDeclaredStatement count points (Assigning n e) = (n < count) × IsDeclaredExpr count e
+  IsDeclaredStatement count points (Putting e) = IsDeclaredExpr count e
+  IsDeclaredStatement count points (Returning e) = IsDeclaredExpr count e
+  IsDeclaredStatement count points (Choosing e block) = IsDeclaredExpr count e × IsDeclared count points block
+  IsDeclaredStatement count points (Looping e block) = IsDeclaredExpr count e × IsDeclared count points block
+  IsDeclaredStatement count points (Reaching n) = n < points
+  IsDeclaredStatement count points Migrating = Unit {0}
 
-  pub IsDeclared : ℕ → Block → Type 0
-  IsDeclared count Empty = Unit {0}
-  IsDeclared count (Then statement block) = IsDeclaredStatement count statement × IsDeclared count block
+  pub IsDeclared : ℕ → ℕ → Block → Type 0
+  IsDeclared count points Empty = Unit {0}
+  IsDeclared count points (Then statement block) = IsDeclaredStatement count points statement × IsDeclared count points block
 
 -- how many braces are open at once inside
 abbrev mutual
@@ -151,20 +154,43 @@ abbrev mutual
   statement_height (Returning e) = 0
   statement_height (Choosing e block) = 1 + height block
   statement_height (Looping e block) = 1 + height block
+  statement_height (Reaching n) = 0
+  statement_height Migrating = 0
 
   pub height : Block → ℕ
   height Empty = 0
   height (Then statement block) = max (statement_height statement) (height block)
 
 -- names are distinct and none is reserved, each used name is declared, and at most 50 braces are open at once
-pub record IsSource (s : Source) : Type 0 where
+pub record IsSource (s : Version) : Type 0 where
   pub named : AreNamed s.globals
-  pub declared : IsDeclared (length s.globals) s.body
+  pub declared : IsDeclared (length s.globals) (length s.points) s.body
   pub shallow : 1 + height s.body ≤ 50
 
--- the bytes are at most 262,144, and their tokens spell the program
-pub record IsProgramText (bytes : List ℕ) (s : Source) : Type 0 where
+-- ---- the update points
+
+-- the strings of the tokens
+abbrev pub strings_of : List Token → List (List ℕ)
+strings_of [] = []
+strings_of (Word word ∷ rest) = strings_of rest
+strings_of (Number n ∷ rest) = strings_of rest
+strings_of (Character c ∷ rest) = strings_of rest
+strings_of (Text bytes ∷ rest) = bytes ∷ strings_of rest
+strings_of (Mark sign ∷ rest) = strings_of rest
+
+-- the others than this one
+abbrev pub without : List ℕ → List (List ℕ) → List (List ℕ)
+without p ps = filter (λ q. not (bytes_eq p q)) ps
+
+-- each once, in the order of their first places
+abbrev pub first_places : List (List ℕ) → List (List ℕ)
+first_places [] = []
+first_places (p ∷ ps) = p ∷ without p (first_places ps)
+
+-- the bytes are at most 262,144, their tokens spell the program, and its points are the strings of its tokens
+pub record IsProgramText (bytes : List ℕ) (s : Version) : Type 0 where
   pub short : length bytes ≤ 262144
   pub source : IsSource s
   pub with_void : Bool
   pub tokens : HasTokens bytes (source_tokens with_void s)
+  pub points_are : s.points ≡ first_places (strings_of (source_tokens with_void s))

@@ -1,9 +1,13 @@
--- The journal: the text of a list of turns and of the end.
-use Rattle.std.specs.Prelude.{ℕ, ◌+◌, ◌==◌, ℤ, List, [], ◌∷◌, ◌++◌, codes, if◌then◌else◌}
+-- The journal: the text of a list of turns and of the marks between them.
+use Rattle.std.specs.Prelude.{ℕ, ◌+◌, ◌-◌, ◌==◌, List, [], ◌∷◌, ◌++◌, codes, take, drop, if◌then◌else◌}
 use Rattle.std.specs.Fmt.{decimal, signed_decimal}
 use Rattle.kt_meaning.specs.declared.acts.Trap.TheVariants.{Overflow}
-use Rattle.kt_play.specs.declared.end.End.{End}
-use Rattle.kt_play.specs.declared.end.End.TheVariants.{Main, Trap, Budget}
+use Rattle.kt_world.specs.declared.mark.Closed.{Closed}
+use Rattle.kt_world.specs.declared.mark.Closed.TheVariants as closed
+use Rattle.kt_world.specs.declared.mark.End.{End}
+use Rattle.kt_world.specs.declared.mark.End.TheVariants as end
+use Rattle.kt_world.specs.declared.mark.Mark.{Mark}
+use Rattle.kt_world.specs.declared.mark.Mark.TheVariants as mark
 
 -- some turns of one thread in a row
 pub record Stretch : Type 0 where
@@ -22,15 +26,44 @@ abbrev pub stretches_of : List ℕ → List Stretch
 stretches_of [] = []
 stretches_of (t ∷ turns) = with_turn t (stretches_of turns)
 
-abbrev pub turn_lines : List Stretch → List ℕ
-turn_lines [] = []
-turn_lines (s ∷ rest) =
-    codes "turn " ++ (decimal s.thread ++ (codes " " ++ (decimal s.count ++ (codes "\n" ++ turn_lines rest))))
+abbrev pub stretch_lines : List Stretch → List ℕ
+stretch_lines [] = []
+stretch_lines (s ∷ rest) =
+    codes "turn " ++ (decimal s.thread ++ (codes " " ++ (decimal s.count ++ (codes "\n" ++ stretch_lines rest))))
+
+abbrev pub turn_lines : List ℕ → List ℕ
+turn_lines turns = stretch_lines (stretches_of turns)
+
+abbrev pub closed_line : Closed → List ℕ
+closed_line (closed.Ok images) = codes " ok " ++ (decimal images ++ codes "\n")
+closed_line (closed.Point thread) = codes " refused point " ++ (decimal thread ++ codes "\n")
 
 abbrev pub end_line : End → List ℕ
-end_line (Main v) = codes "end main " ++ (signed_decimal v ++ codes "\n")
-end_line (Trap t Overflow) = codes "end trap " ++ (decimal t ++ codes " overflow\n")
-end_line Budget = codes "end budget\n"
+end_line (end.Main v) = codes "end main " ++ (signed_decimal v ++ codes "\n")
+end_line (end.Trap t Overflow) = codes "end trap " ++ (decimal t ++ codes " overflow\n")
+end_line end.Budget = codes "end budget\n"
 
-abbrev pub journal_of : List ℕ → End → List ℕ
-journal_of turns how = codes "kit 1\n" ++ (turn_lines (stretches_of turns) ++ end_line how)
+abbrev pub mark_line : Mark → List ℕ
+mark_line (mark.Ask turn k) = codes "ask " ++ (decimal k ++ codes "\n")
+mark_line (mark.Close turn k closed) = codes "close " ++ (decimal k ++ closed_line closed)
+mark_line (mark.MainThere turn k) = codes "main " ++ (decimal k ++ codes "\n")
+mark_line (mark.Back turn k) = codes "back " ++ (decimal k ++ codes "\n")
+mark_line (mark.End turn how) = end_line how
+
+-- the turns that were made before a mark
+abbrev pub turn_of : Mark → ℕ
+turn_of (mark.Ask turn k) = turn
+turn_of (mark.Close turn k closed) = turn
+turn_of (mark.MainThere turn k) = turn
+turn_of (mark.Back turn k) = turn
+turn_of (mark.End turn how) = turn
+
+-- the lines of these turns, before which so many were made, with the marks among them
+abbrev pub lines_from : ℕ → List ℕ → List Mark → List ℕ
+lines_from made turns [] = turn_lines turns
+lines_from made turns (m ∷ marks) =
+    turn_lines (take (turn_of m - made) turns)
+    ++ (mark_line m ++ lines_from (turn_of m) (drop (turn_of m - made) turns) marks)
+
+abbrev pub journal_of : List ℕ → List Mark → List ℕ
+journal_of turns marks = codes "kit 1\n" ++ lines_from 0 turns marks

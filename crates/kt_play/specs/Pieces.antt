@@ -16,6 +16,8 @@ pub data Piece : Type 0 where
   Digits : List ℕ → Piece
   -- a character constant with that value (6.4.4.4)
   Quoted : ℕ → Piece
+  -- a string literal with these bytes (6.4.5)
+  Text : List ℕ → Piece
   -- a punctuator (6.4.6)
   Mark : Sign → Piece
 
@@ -53,12 +55,17 @@ is_decimal digits = not (length digits == 0) && list_all is_ascii_digit digits &
 abbrev pub is_character : ℕ → Bool
 is_character c = (nat_le 32 c && nat_le c 126 && not (c == 39) && not (c == 92)) || (c == 10)
 
+-- what the name of an update point may have: letters, digits, `_` and `-`
+abbrev pub is_point_byte : ℕ → Bool
+is_point_byte b = is_word_byte b || (b == 45)
+
 -- a piece is spelled as the tokens ask; an `int` is at most 2,147,483,647
 abbrev pub is_well_spelled : Piece → Bool
 is_well_spelled (Blank b) = is_blank b
 is_well_spelled (Letters word) = is_word word
 is_well_spelled (Digits digits) = is_decimal digits && nat_le (decimal_value digits) 2147483647
 is_well_spelled (Quoted c) = is_character c
+is_well_spelled (Text bytes) = list_all is_point_byte bytes
 is_well_spelled (Mark sign) = true
 
 abbrev pub sign_spelling : Sign → List ℕ
@@ -79,6 +86,7 @@ spelling (Blank b) = b ∷ []
 spelling (Letters word) = word
 spelling (Digits digits) = digits
 spelling (Quoted c) = 39 ∷ (if c == 10 then 92 ∷ 110 ∷ 39 ∷ [] else c ∷ 39 ∷ [])
+spelling (Text bytes) = 34 ∷ bytes ++ 34 ∷ []
 spelling (Mark sign) = sign_spelling sign
 
 -- the byte directly after the sign would make a longer sign of C: `==`, `++`, `+=`, `--`, `-=`, `->`, `<=`
@@ -100,6 +108,7 @@ continues (Blank c) b = false
 continues (Letters word) b = is_word_byte b
 continues (Digits digits) b = is_word_byte b
 continues (Quoted c) b = false
+continues (Text bytes) b = false
 continues (Mark sign) b = sign_continues sign b
 
 -- the first byte passes the test, if there is one
@@ -131,6 +140,7 @@ token_of (Blank b) = []
 token_of (Letters word) = token.Word word ∷ []
 token_of (Digits digits) = token.Number (pos (decimal_value digits)) ∷ []
 token_of (Quoted c) = token.Character c ∷ []
+token_of (Text bytes) = token.Text bytes ∷ []
 token_of (Mark sign) = token.Mark sign ∷ []
 
 abbrev pub tokens_of : List Piece → List Token

@@ -1,6 +1,6 @@
 -- Reading a text from left to right: what the functions of the reader compute, on lists.
 use Rattle.std.specs.Prelude.{◌≡◌, ℕ, ◌+◌, ◌-◌, zero, suc, Bool, true, false, ◌==◌, ◌||◌, ◌&&◌, not, if◌then◌else◌, List, [], ◌∷◌, ◌++◌, length, take, drop, ℤ, Option, Some, None, Result, Ok, Err, codes}
-use Rattle.std.specs.List.{prefix_len}
+use Rattle.std.specs.List.{prefix_len, position_from}
 use Rattle.std.specs.Str.{bytes_eq}
 use Rattle.std.specs.Option.{option_map, is_some}
 use Rattle.std.specs.Char.{is_ascii_digit}
@@ -19,9 +19,9 @@ use Rattle.kt_meaning.specs.declared.tree.Operator.TheVariants as operator
 use Rattle.kt_meaning.specs.declared.tree.Expr.{Expr}
 use Rattle.kt_meaning.specs.declared.tree.Expr.TheVariants.{Single, Binary}
 use Rattle.kt_meaning.specs.declared.tree.Global.{Global}
-use Rattle.kt_meaning.specs.Tree.{Statement, Assigning, Putting, Returning, Choosing, Looping, Block, Empty, Then}
-use Rattle.kt_play.specs.Form.{Source, is_reserved, place_of}
-use Rattle.kt_play.specs.Pieces.{Piece, Blank, Letters, Digits, Quoted, Mark, is_blank, begins_word, is_word_byte, is_character, is_well_spelled, first_is, goes_on, token_of}
+use Rattle.kt_meaning.specs.Tree.{Statement, Assigning, Putting, Returning, Choosing, Looping, Reaching, Migrating, Block, Empty, Then, Version}
+use Rattle.kt_play.specs.Form.{is_reserved, place_of}
+use Rattle.kt_play.specs.Pieces.{Piece, Blank, Letters, Digits, Quoted, Text, Mark, is_blank, begins_word, is_word_byte, is_character, is_point_byte, is_well_spelled, first_is, goes_on, token_of}
 
 infixl 10 ◌>>=◌
 abbrev pub ◌>>=◌ : {A B : Type 0} → Option A → (A → Option B) → Option B
@@ -69,6 +69,14 @@ character_at (c ∷ quote ∷ rest) =
     else (if (quote == 39) && is_character c && not (c == 10) then Some (Quoted c, rest)
     else None)
 
+-- behind the opening quote of a string
+abbrev pub closed_at : List ℕ → List ℕ → Option (Piece × List ℕ)
+closed_at bytes [] = None
+closed_at bytes (quote ∷ rest) = if quote == 34 then Some (Text bytes, rest) else None
+
+unfoldable pub text_at : List ℕ → Option (Piece × List ℕ)
+text_at bytes = let n = prefix_len is_point_byte bytes in closed_at (take n bytes) (drop n bytes)
+
 -- the sign of one byte
 unfoldable pub single_sign : ℕ → Option Sign
 single_sign b =
@@ -99,8 +107,9 @@ piece_at (b ∷ rest) =
     if begins_word b then word_at (b ∷ rest)
     else (if is_ascii_digit b then number_at (b ∷ rest)
     else (if b == 39 then character_at rest
+    else (if b == 34 then text_at rest
     else (if is_blank b then Some (Blank b, rest)
-    else sign_at (b ∷ rest))))
+    else sign_at (b ∷ rest)))))
 
 -- a piece as a token
 abbrev pub as_token : Option (Piece × List ℕ) → Option (List Token × List ℕ)
@@ -113,6 +122,7 @@ operand_at globals [] = None
 operand_at globals (token.Number n ∷ rest) = Some (operand.Number n, rest)
 operand_at globals (token.Character c ∷ rest) = Some (operand.Character c, rest)
 operand_at globals (token.Word word ∷ rest) = place_of globals word >>= λ n. Some (operand.Global n, rest)
+operand_at globals (token.Text bytes ∷ rest) = None
 operand_at globals (token.Mark sign ∷ rest) = None
 
 abbrev pub operator_of : Sign → Option Operator
@@ -132,6 +142,7 @@ operator_at [] = None
 operator_at (token.Number n ∷ rest) = None
 operator_at (token.Character c ∷ rest) = None
 operator_at (token.Word word ∷ rest) = None
+operator_at (token.Text bytes ∷ rest) = None
 operator_at (token.Mark sign ∷ rest) = operator_of sign
 
 -- what stands behind an operand
@@ -188,21 +199,49 @@ unfoldable pub assign_at : List Global → List ℕ → List Token → Option (H
 assign_at globals word tokens =
     place_of globals word >>= λ n. behind_assign tokens >>= λ right. ended_at globals right >>= λ e. Some (head.Assign n e.0, e.1)
 
-unfoldable pub worded_at : List Global → List ℕ → List Token → Option (Head × List Token)
-worded_at globals word rest =
+-- the point that a name stands for
+unfoldable pub place_of_point : List (List ℕ) → List ℕ → Option ℕ
+place_of_point points name = position_from (λ p. bytes_eq p name) 0 points
+
+-- the number of a point
+unfoldable pub point_at : List (List ℕ) → List Token → Option (ℕ × List Token)
+point_at points [] = None
+point_at points (token.Word word ∷ rest) = None
+point_at points (token.Number n ∷ rest) = None
+point_at points (token.Character c ∷ rest) = None
+point_at points (token.Text bytes ∷ rest) = place_of_point points bytes >>= λ n. Some (n, rest)
+point_at points (token.Mark sign ∷ rest) = None
+
+unfoldable pub update_at : List (List ℕ) → List Token → Option (Head × List Token)
+update_at points tokens =
+    behind_open tokens >>= λ inner. point_at points inner >>= λ p. behind_close p.1
+    >>= λ rest. behind_semicolon rest >>= λ after. Some (head.Update p.0, after)
+
+unfoldable pub automigrate_at : List Token → Option (Head × List Token)
+automigrate_at tokens = behind_open tokens >>= λ inner. behind_close inner >>= λ rest. behind_semicolon rest >>= λ after. Some (head.Automigrate, after)
+
+unfoldable pub call_at : List (List ℕ) → List Global → List ℕ → List Token → Option (Head × List Token)
+call_at points globals word rest =
+    if bytes_eq word (codes "kitsune_update") then update_at points rest
+    else (if bytes_eq word (codes "kitsune_do_automigrate") then automigrate_at rest
+    else assign_at globals word rest)
+
+unfoldable pub worded_at : List Global → List (List ℕ) → List ℕ → List Token → Option (Head × List Token)
+worded_at globals points word rest =
     if bytes_eq word (codes "putchar") then put_at globals rest
     else (if bytes_eq word (codes "return") then (ended_at globals rest >>= λ e. Some (head.Return e.0, e.1))
     else (if bytes_eq word (codes "if") then (condition_at globals rest >>= λ e. Some (head.If e.0, e.1))
     else (if bytes_eq word (codes "while") then (condition_at globals rest >>= λ e. Some (head.While e.0, e.1))
-    else assign_at globals word rest)))
+    else call_at points globals word rest)))
 
 -- a statement, as far as its opening brace where it has one
-unfoldable pub head_at : List Global → List Token → Option (Head × List Token)
-head_at globals [] = None
-head_at globals (token.Number n ∷ rest) = None
-head_at globals (token.Character c ∷ rest) = None
-head_at globals (token.Mark sign ∷ rest) = None
-head_at globals (token.Word word ∷ rest) = worded_at globals word rest
+unfoldable pub head_at : List Global → List (List ℕ) → List Token → Option (Head × List Token)
+head_at globals points [] = None
+head_at globals points (token.Number n ∷ rest) = None
+head_at globals points (token.Character c ∷ rest) = None
+head_at globals points (token.Text bytes ∷ rest) = None
+head_at globals points (token.Mark sign ∷ rest) = None
+head_at globals points (token.Word word ∷ rest) = worded_at globals points word rest
 
 -- a block as far as its closing brace, with so many more braces in it
 abbrev pub BlockReader : Type 0
@@ -218,19 +257,21 @@ unfoldable pub rest_at : BlockReader → ℕ → Head → List Token → Option 
 rest_at blocks braces (head.Assign n e) tokens = Some (Assigning n e, tokens)
 rest_at blocks braces (head.Put e) tokens = Some (Putting e, tokens)
 rest_at blocks braces (head.Return e) tokens = Some (Returning e, tokens)
+rest_at blocks braces (head.Update n) tokens = Some (Reaching n, tokens)
+rest_at blocks braces head.Automigrate tokens = Some (Migrating, tokens)
 rest_at blocks braces (head.If e) tokens = inner_at blocks braces tokens >>= λ b. Some (Choosing e b.0, b.1)
 rest_at blocks braces (head.While e) tokens = inner_at blocks braces tokens >>= λ b. Some (Looping e b.0, b.1)
 
-unfoldable pub statement_at : BlockReader → List Global → ℕ → List Token → Option (Statement × List Token)
-statement_at blocks globals braces tokens = head_at globals tokens >>= λ h. rest_at blocks braces h.0 h.1
+unfoldable pub statement_at : BlockReader → List Global → List (List ℕ) → ℕ → List Token → Option (Statement × List Token)
+statement_at blocks globals points braces tokens = head_at globals points tokens >>= λ h. rest_at blocks braces h.0 h.1
 
 -- limit: no less than there are tokens; braces: how many more may be open at once
-unfoldable pub block_at : ℕ → List Global → ℕ → List Token → Option (Block × List Token)
-block_at zero globals braces tokens = None
-block_at (suc limit) globals braces tokens =
+unfoldable pub block_at : ℕ → List Global → List (List ℕ) → ℕ → List Token → Option (Block × List Token)
+block_at zero globals points braces tokens = None
+block_at (suc limit) globals points braces tokens =
     matched (behind_last_brace tokens) (λ rest. Some (Empty, rest))
-    (statement_at (block_at limit globals) globals braces tokens
-    >>= λ s. block_at limit globals braces s.1 >>= λ b. Some (Then s.0 b.0, b.1))
+    (statement_at (block_at limit globals points) globals points braces tokens
+    >>= λ s. block_at limit globals points braces s.1 >>= λ b. Some (Then s.0 b.0, b.1))
 
 -- a name that no earlier global has
 unfoldable pub is_new : List Global → List ℕ → Bool
@@ -267,24 +308,35 @@ behind_void [] = []
 behind_void (token.Word void ∷ rest) = if bytes_eq void (codes "void") then rest else token.Word void ∷ rest
 behind_void (token.Number n ∷ rest) = token.Number n ∷ rest
 behind_void (token.Character c ∷ rest) = token.Character c ∷ rest
+behind_void (token.Text bytes ∷ rest) = token.Text bytes ∷ rest
 behind_void (token.Mark sign ∷ rest) = token.Mark sign ∷ rest
 
 -- the body of `main`, with nothing behind it
-unfoldable pub body_at : List Global → List Token → Option Block
-body_at globals tokens = block_at (length tokens) globals 49 tokens >>= λ b. if length b.1 == 0 then Some b.0 else None
+unfoldable pub body_at : List Global → List (List ℕ) → List Token → Option Block
+body_at globals points tokens = block_at (length tokens) globals points 49 tokens >>= λ b. if length b.1 == 0 then Some b.0 else None
 
 -- what stands behind `int main`
-unfoldable pub main_at : List Global → List Token → Option Block
-main_at globals tokens =
-    behind_open tokens >>= λ inner. behind_close (behind_void inner) >>= λ rest. behind_brace rest >>= λ body. body_at globals body
+unfoldable pub main_at : List Global → List (List ℕ) → List Token → Option Block
+main_at globals points tokens =
+    behind_open tokens >>= λ inner. behind_close (behind_void inner) >>= λ rest. behind_brace rest >>= λ body. body_at globals points body
 
 -- limit: no less than there are tokens
-unfoldable pub source_at : ℕ → List Global → List Token → Option Source
-source_at zero globals tokens = None
-source_at (suc limit) globals tokens =
+unfoldable pub source_at : List (List ℕ) → ℕ → List Global → List Token → Option Version
+source_at points zero globals tokens = None
+source_at points (suc limit) globals tokens =
     matched (behind_name tokens)
-    (λ rest. main_at globals rest >>= λ body. Some (record { globals = globals; body = body }))
-    (global_at globals tokens >>= λ g. source_at limit (globals ++ g.0 ∷ []) g.1)
+    (λ rest. main_at globals points rest >>= λ body. Some (record { globals = globals; points = points; body = body }))
+    (global_at globals tokens >>= λ g. source_at points limit (globals ++ g.0 ∷ []) g.1)
+
+-- ---- the points
+
+-- the points with one more, where it is not there yet
+abbrev pub with_new : List (List ℕ) → List ℕ → List (List ℕ)
+with_new points name = if is_some (position_from (λ p. bytes_eq p name) 0 points) then points else points ++ name ∷ []
+
+abbrev pub with_new_all : List (List ℕ) → List (List ℕ) → List (List ℕ)
+with_new_all points [] = points
+with_new_all points (name ∷ names) = with_new_all (with_new points name) names
 
 -- ---- what a failure says
 

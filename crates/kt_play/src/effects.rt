@@ -1,16 +1,17 @@
-//! The effects of acts on memory and output.
+//! The values of globals and the points of two versions, by name.
 
-ghost use Rattle.std.specs.Prelude.{◌≡◌, IfOk, slice_set};
-ghost use Rattle.kt_play.specs.Machine.{IsPerformed};
-ghost use Rattle.kt_play.specs.World as world;
+ghost use Rattle.std.specs.Prelude.{◌≡◌, ◌<◌, ◌^◌, bytes_eq, length, slice_get, slice_set, IfOk, IfSome};
+ghost use Rattle.kt_meaning.specs.Tree.{version_of};
+ghost use Rattle.kt_world.specs.Update as plain;
+ghost use Rattle.kt_play.specs.Effects.{placed_one};
 
-use kt_meaning::acts::{Act, Reply};
-use kt_meaning::tree::Global as GlobalDecl;
+use kt_meaning::tree::{Global as GlobalDecl, Program};
+use sqlite_items::{Items, at};
 use std::alloc::{AllocError, Global};
 
-/// The values that the globals start with; 0 where none is written.
+/// The values that the globals start with; 0 where none is written (ISO/IEC 9899:2011, 6.7.9, paragraph 10).
 pub fn first_values(alloc: Global, globals: &[GlobalDecl]) -> Result<Vec<i32>, AllocError>
-    ensures { IfOk result (λ values. values.items ≡ world.first_memory globals.now) }
+    ensures { IfOk result (λ values. values.items ≡ plain.first_memory globals.now) }
 {
     globals
         .iter()
@@ -18,35 +19,96 @@ pub fn first_values(alloc: Global, globals: &[GlobalDecl]) -> Result<Vec<i32>, A
         .collect(alloc)
 }
 
-/// The act's effect on memory and output, and the reply to it.
-pub fn perform(memory: &mut Vec<i32>, output: &mut Vec<u8>, act: Act) -> Result<Reply, AllocError>
-    ensures { IfOk result (IsPerformed act memory.old.items output.old.items memory.new.items output.new.items) }
+/// What an update keeps for the new version's globals: the values of the old ones of their names.
+pub fn kept_values(
+    alloc: Global,
+    old: &[GlobalDecl],
+    memory: &[i32],
+    new: &[GlobalDecl],
+) -> Result<Vec<Option<i32>>, AllocError>
+    ensures { IfOk result (λ kept. kept.items ≡ plain.kept_values old.now memory.now new.now) }
 {
-    match act {
-        Act::Tick => Ok(Reply::Done),
-        Act::Load(global) => Ok(Reply::Got(value_at(memory, global))),
-        Act::Store(global, value) => {
-            store(memory, global, value);
-            Ok(Reply::Done)
-        }
-        Act::Print(byte) => {
-            output.push(byte)?;
-            Ok(Reply::Done)
-        }
+    new.iter()
+        .map(|global| kept_value(old, memory, global))
+        .collect(alloc)
+}
+
+fn kept_value(old: &[GlobalDecl], memory: &[i32], global: &GlobalDecl) -> Option<i32>
+    ensures { result ≡ plain.kept_value old.now memory.now global.now }
+{
+    match global_named(old, global.name.as_slice()) {
+        Some(number) => Some(value_at(memory, number)),
+        None => None,
     }
 }
 
-fn value_at(memory: &[i32], global: u32) -> i32
-    ensures { result ≡ world.value_at memory.now global }
+fn global_named(globals: &[GlobalDecl], name: &[u8]) -> Option<usize>
+    ensures { result ≡ plain.global_named globals.now name.now }
 {
-    memory.get(global as usize).copied().unwrap_or(0)
+    globals.iter().position(|global| is_named(global, name))
 }
 
-fn store(memory: &mut Vec<i32>, global: u32, value: i32)
-    ensures { memory.new.items ≡ slice_set memory.old.items global value }
+fn is_named(global: &GlobalDecl, name: &[u8]) -> bool
+    ensures { result ≡ bytes_eq global.now.name name.now }
 {
-    let place = global as usize;
-    if place < memory.len() {
-        memory[place] = value;
+    global.name.as_slice() == name
+}
+
+/// The value of the global of that number.
+pub fn value_at(memory: &[i32], global: usize) -> i32
+    ensures { result ≡ plain.value_at memory.now global }
+{
+    memory.get(global).copied().unwrap_or(0)
+}
+
+/// Gives the global of that number a value.
+pub fn store(memory: &mut [i32], global: usize, value: i32)
+    ensures { memory.new ≡ slice_set memory.old global value }
+{
+    if global < memory.len() {
+        memory[global] = value;
+    }
+}
+
+/// Puts all kept values into their places.
+pub fn place(memory: &mut [i32], kept: &[Option<i32>])
+    ensures { memory.new ≡ plain.placed kept.now memory.old }
+{
+    for (global, value) in kept.iter().enumerate() {
+        place_one(memory, global, *value);
+    }
+}
+
+fn place_one(memory: &mut [i32], global: usize, kept: Option<i32>)
+    ensures { memory.new ≡ placed_one kept global memory.old }
+{
+    match kept {
+        Some(value) => store(memory, global, value),
+        None => {}
+    }
+}
+
+/// The point of the new version with the name of that point of the old one. A number of 2^32 or more is want of memory.
+pub fn new_point(old: &Program, new: &Program, point: u32) -> Result<Option<u32>, AllocError>
+    ensures { IfOk result (λ number. number ≡ plain.new_point (version_of old.now) (version_of new.now) point) }
+{
+    match at(old.points.as_slice(), point as usize) {
+        Some(name) => numbered(point_named(new.points.as_slice(), name.as_slice())),
+        None => Ok(None),
+    }
+}
+
+fn point_named(points: &[Items<u8>], name: &[u8]) -> Option<usize>
+    ensures { result ≡ plain.point_named points.now name.now }
+{
+    points.iter().position(|point| point.as_slice() == name)
+}
+
+fn numbered(place: Option<usize>) -> Result<Option<u32>, AllocError>
+    ensures { IfOk result (λ number. number ≡ place) }
+{
+    match place {
+        Some(place) => Ok(Some(u32::try_from(place).map_err(|_| AllocError)?)),
+        None => Ok(None),
     }
 }

@@ -1,10 +1,11 @@
-//! The reader of program texts of the first form.
+//! The reader of program texts of the second form.
 
 mod block;
 mod expr;
 mod fault;
 mod front;
 mod head;
+mod points;
 mod program;
 mod scan;
 mod source;

@@ -1,26 +1,56 @@
 //! The journal's text.
 
-ghost use Rattle.std.specs.Prelude.{◌≡◌, ◌<◌, [], ◌∷◌, ◌++◌, codes, replicate, IfOk, OnOk};
-ghost use Rattle.kt_play.specs.Journal.{end_line, journal_of, turn_lines};
+ghost use Rattle.std.specs.Prelude.{◌≡◌, ◌++◌, ◌∷◌, [], replicate, IfOk, OnOk};
+ghost use Rattle.std.specs.Fmt.{decimal};
+ghost use Rattle.kt_play.specs.Journal as spec;
 
-use crate::end::End;
 use itoa::Buffer;
 use kt_meaning::acts::Trap;
+use kt_world::mark::{Closed, End, Mark};
 use std::alloc::{AllocError, Global};
 
-/// The journal of so many turns of thread 0 and of the end.
-pub fn journal(alloc: Global, turns: u32, how: End) -> Result<Vec<u8>, AllocError>
-    requires { 0 < turns }
-    ensures { IfOk result (λ text. text.items ≡ journal_of (replicate turns 0) how) }
+/// The journal of so many turns of thread 0 and of these marks.
+pub fn journal(alloc: Global, turns: u32, marks: &[Mark]) -> Result<Vec<u8>, AllocError>
+    ensures { IfOk result (λ text. text.items ≡ spec.journal_of (replicate turns 0) marks.now) }
 {
     let mut text = Vec::from_slice(alloc, b"kit 1\n")?;
-    push_turns(&mut text, 0, turns)?;
-    push_end(&mut text, how)?;
+    let mut made = 0;
+    let mut left = turns;
+    for mark in marks {
+        let turn = turn_of(mark);
+        let count = turn.saturating_sub(made).min(left);
+        push_turns(&mut text, count)?;
+        push_mark(&mut text, mark)?;
+        made = turn;
+        left -= count;
+    }
+    push_turns(&mut text, left)?;
     Ok(text)
 }
 
-fn push_turns(text: &mut Vec<u8>, thread: u8, count: u32) -> Result<(), AllocError>
-    ensures { OnOk result (text.new.items ≡ text.old.items ++ turn_lines (record { thread = thread; count = count } ∷ [])) }
+fn turn_of(mark: &Mark) -> u32
+    ensures { result ≡ spec.turn_of mark.now }
+{
+    match mark {
+        Mark::Ask { turn, .. }
+        | Mark::Close { turn, .. }
+        | Mark::MainThere { turn, .. }
+        | Mark::Back { turn, .. }
+        | Mark::End { turn, .. } => *turn,
+    }
+}
+
+fn push_turns(text: &mut Vec<u8>, count: u32) -> Result<(), AllocError>
+    ensures { OnOk result (text.new.items ≡ text.old.items ++ spec.turn_lines (replicate count 0)) }
+{
+    if count == 0 {
+        return Ok(());
+    }
+    push_stretch(text, 0, count)
+}
+
+fn push_stretch(text: &mut Vec<u8>, thread: u8, count: u32) -> Result<(), AllocError>
+    ensures { OnOk result (text.new.items ≡ text.old.items ++ spec.stretch_lines (record { thread = thread; count = count } ∷ [])) }
 {
     let mut buffer = Buffer::new();
     text.extend_from_slice(b"turn ")?;
@@ -31,8 +61,48 @@ fn push_turns(text: &mut Vec<u8>, thread: u8, count: u32) -> Result<(), AllocErr
     Ok(())
 }
 
+fn push_mark(text: &mut Vec<u8>, mark: &Mark) -> Result<(), AllocError>
+    ensures { OnOk result (text.new.items ≡ text.old.items ++ spec.mark_line mark.now) }
+{
+    match *mark {
+        Mark::Ask { k, .. } => push_numbered(text, b"ask ", k, b"\n"),
+        Mark::Close { k, closed, .. } => {
+            push_numbered(text, b"close ", k, b"")?;
+            push_closed(text, closed)
+        }
+        Mark::MainThere { k, .. } => push_numbered(text, b"main ", k, b"\n"),
+        Mark::Back { k, .. } => push_numbered(text, b"back ", k, b"\n"),
+        Mark::End { how, .. } => push_end(text, how),
+    }
+}
+
+fn push_numbered(text: &mut Vec<u8>, word: &[u8], number: u8, end: &[u8]) -> Result<(), AllocError>
+    ensures { OnOk result (text.new.items ≡ text.old.items ++ (word.now ++ (decimal number ++ end.now))) }
+{
+    let mut buffer = Buffer::new();
+    text.extend_from_slice(word)?;
+    text.extend_from_slice(buffer.format(number).as_bytes())?;
+    text.extend_from_slice(end)?;
+    Ok(())
+}
+
+fn push_closed(text: &mut Vec<u8>, closed: Closed) -> Result<(), AllocError>
+    ensures { OnOk result (text.new.items ≡ text.old.items ++ spec.closed_line closed) }
+{
+    let mut buffer = Buffer::new();
+    match closed {
+        Closed::Ok(images) => {
+            text.extend_from_slice(b" ok ")?;
+            text.extend_from_slice(buffer.format(images).as_bytes())?;
+            text.extend_from_slice(b"\n")?;
+            Ok(())
+        }
+        Closed::Point(thread) => push_numbered(text, b" refused point ", thread, b"\n"),
+    }
+}
+
 fn push_end(text: &mut Vec<u8>, how: End) -> Result<(), AllocError>
-    ensures { OnOk result (text.new.items ≡ text.old.items ++ end_line how) }
+    ensures { OnOk result (text.new.items ≡ text.old.items ++ spec.end_line how) }
 {
     let mut buffer = Buffer::new();
     match how {
@@ -42,12 +112,12 @@ fn push_end(text: &mut Vec<u8>, how: End) -> Result<(), AllocError>
             text.extend_from_slice(b"\n")?;
             Ok(())
         }
-        End::Trap(thread, Trap::Overflow) => {
-            text.extend_from_slice(b"end trap ")?;
-            text.extend_from_slice(buffer.format(thread).as_bytes())?;
-            text.extend_from_slice(b" overflow\n")?;
-            Ok(())
-        }
+        End::Trap(thread, Trap::Overflow) => push_numbered(
+            text,
+            b"end trap ",
+            thread,
+            b" overflow\n",
+        ),
         End::Budget => {
             text.extend_from_slice(b"end budget\n")?;
             Ok(())

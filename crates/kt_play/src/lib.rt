@@ -1,8 +1,8 @@
-//! Runs a program of the first form in the words' file, and writes its output and the journal of its turns.
+//! Runs the program in the files that the words name, updates it, and writes its output and the journal of its turns.
 #![tactic(auto)]
 
+pub mod codes;
 pub mod effects;
-pub mod end;
 mod form;
 pub mod journal;
 pub mod machine;
@@ -13,6 +13,8 @@ pub mod refusal;
 pub mod refuse;
 pub mod report;
 pub mod run;
+pub mod shared;
 pub mod status;
 #[cfg(test)]
 mod tests;
+pub mod turns;

@@ -1,6 +1,10 @@
 //! Why a call of `play` runs nothing.
 
+ghost use Rattle.std.specs.Prelude.{◌≡◌};
+ghost use Rattle.kt_play.specs.declared.refusal.Refusal.TheVariants.{Memory};
+
 use crate::status::{Cause, Which};
+use std::alloc::AllocError;
 
 /// Why nothing is run.
 #[derive(Clone, Copy, PartialEq, Eq, Debug)]
@@ -13,4 +17,12 @@ pub enum Refusal {
     File(u8, Cause),
     /// Memory ran out.
     Memory,
+}
+
+impl From<AllocError> for Refusal {
+    ghost from_gives = { λ _ refusal. refusal ≡ Memory };
+
+    fn from(_error: AllocError) -> Refusal {
+        Refusal::Memory
+    }
 }

@@ -1,56 +1,20 @@
-//! Runs a program to its end.
+//! Compiles a job's versions, and runs it.
 
-ghost use Rattle.std.specs.Prelude.{◌<◌, IfOk};
-ghost use Rattle.kt_play.specs.Form.{source_of};
-ghost use Rattle.kt_play.specs.Report.{HasRun, IsAtFirst};
-ghost use Rattle.kt_play.specs.Run.{budget, first_world_of};
-ghost use Rattle.kt_play.specs.World.{World};
+ghost use Rattle.std.specs.Prelude.{IfOk};
+ghost use Rattle.kt_world.specs.Plain.{job_of};
+ghost use Rattle.kt_play.specs.Report.{HasRun};
+ghost use Rattle.kt_play.specs.Runnable.{IsRunnable};
 
-use crate::end::End;
-use crate::machine::Machine;
-use kt_codegen::code::Code;
-use kt_codegen::generate::compile;
-use kt_meaning::tree::Program;
+use crate::codes::compile_all;
+use crate::turns::{Report, take_turns};
+use kt_world::job::Job;
 use std::alloc::{AllocError, Global};
 
-/// The most turns of a run.
-const BUDGET: u32 = 1_000_000;
-
-/// What a run did: all of its turns are of thread 0.
-#[derive(Drop)]
-pub struct Report {
-    pub output: Vec<u8>,
-    pub turns: u32,
-    pub how: End,
-}
-
-/// Runs a program to its end.
-pub fn run(alloc: Global, program: &Program) -> Result<Report, AllocError>
-    ensures { IfOk result (λ report. HasRun budget (first_world_of (source_of program.now)) report.turns report.how report.output.items) }
+/// Runs a job to its end.
+pub fn run(alloc: Global, job: &Job) -> Result<Report, AllocError>
+    requires { IsRunnable job.now }
+    ensures { IfOk result (λ report. HasRun (job_of job.now) report.turns report.how report.output.items report.marks.items) }
 {
-    let code = compile(alloc, program)?;
-    let machine = Machine::new(alloc, program)?;
-    take_turns(&code, machine, BUDGET)
-}
-
-// Takes turns up to the end.
-fn take_turns(code: &Code, mut machine: Machine, budget: u32) -> Result<Report, AllocError>
-    requires { 0 < budget }
-    ensures { IfOk result (λ report. (first : World) → IsAtFirst code.now machine first →
-        HasRun budget first report.turns report.how report.output.items) }
-{
-    for turn in 0..budget {
-        if let Some(how) = machine.act(code)? {
-            return Ok(Report {
-                output: machine.into_output(),
-                turns: turn + 1,
-                how,
-            });
-        }
-    }
-    Ok(Report {
-        output: machine.into_output(),
-        turns: budget,
-        how: End::Budget,
-    })
+    let codes = compile_all(alloc, job.versions.as_slice())?;
+    take_turns(alloc, job, codes.as_slice())
 }

@@ -3,8 +3,8 @@
 ghost use Rattle.std.specs.Prelude.{◌≡◌};
 ghost use Rattle.kt_play.specs.Status.{exit_of};
 
-use crate::end::End;
 use kt_meaning::acts::Trap;
+use kt_world::mark::End;
 
 /// What was to be read.
 #[derive(Clone, Copy, PartialEq, Eq, Debug)]

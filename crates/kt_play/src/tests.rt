@@ -15,6 +15,25 @@ const OVERFLOW: &str = "int n=2147483647; int main(){n=n+1;return 0;}";
 
 const ENDLESS: &str = "int main(){while(1){}}";
 
+// A loop with an update point, which counts in a global and writes a letter a turn; its next versions.
+const LOOP_A: &str =
+    "int n; int main(void){kitsune_do_automigrate(); while(n<5){kitsune_update(\"loop\"); n=n+1; putchar('a');} return 0;}";
+
+const LOOP_B: &str =
+    "int n; int main(void){kitsune_do_automigrate(); while(n<5){kitsune_update(\"loop\"); n=n+1; putchar('b');} return 0;}";
+
+const OTHER_POINT: &str =
+    "int n; int main(void){kitsune_do_automigrate(); while(n<5){kitsune_update(\"other\"); n=n+1; putchar('b');} return 0;}";
+
+const TWO_GLOBALS: &str =
+    "int m; int n; int main(void){kitsune_do_automigrate(); while(n<5){kitsune_update(\"loop\"); n=n+1; putchar('a');} return 0;}";
+
+const NEW_GLOBAL: &str =
+    "int k=65; int n; int main(void){kitsune_do_automigrate(); while(n<5){kitsune_update(\"loop\"); n=n+1; putchar(k);} return 0;}";
+
+const UPDATED: &str =
+    "kit 1\nask 1\nturn 0 4\nclose 1 ok 0\nturn 0 4\nmain 1\nback 1\nturn 0 29\nend main 0\n";
+
 const APPEND_JOURNAL: &str = "kit 1\nturn 0 18\nend main 3\n";
 
 #[derive(Drop)]
@@ -42,18 +61,23 @@ fn sink(alloc: Global, device: Device) -> Result<MemSink, AllocError> {
     MemSink::new(alloc, 1000, piece, [device.fail_on].to_vec(alloc)?)
 }
 
-fn files(alloc: Global, text: &str, fail_on: u64) -> Result<MemFiles, AllocError> {
+fn files(alloc: Global, texts: &[(&str, &str)], fail_on: u64) -> Result<MemFiles, AllocError> {
     let mut entries = Vec::new(alloc);
-    entries.push((
-        String::from_str(alloc, "one.c")?,
-        text.as_bytes().to_vec(alloc)?,
-    ))?;
+    for (name, text) in texts {
+        let name = String::from_str(alloc, name)?;
+        let text = text.as_bytes().to_vec(alloc)?;
+        entries.push((name, text))?;
+    }
     Ok(MemFiles {
         entries,
         fail_on: [fail_on].to_vec(alloc)?,
         calls: 0,
         faults: 0,
     })
+}
+
+fn one(alloc: Global, text: &str, fail_on: u64) -> Result<MemFiles, AllocError> {
+    files(alloc, &[("one.c", text)], fail_on)
 }
 
 fn call(
@@ -93,7 +117,7 @@ fn call(
 }
 
 fn run(alloc: Global, text: &str) -> Result<Played, AllocError> {
-    call(alloc, &["one.c"], files(alloc, text, 0)?, STEADY, STEADY)
+    call(alloc, &["one.c"], one(alloc, text, 0)?, STEADY, STEADY)
 }
 
 fn expect(rt: &impl std::process::Abort, played: &Played, status: Status, out: &str, log: &str) {
@@ -165,11 +189,19 @@ fn empty_file_is_later(rt: HostRuntime) -> Result<(), Fail> {
 
 #[test]
 fn words_that_are_no_order(rt: HostRuntime) -> Result<(), Fail> {
-    for words in [[].as_slice(), &["one.c", "one.c"], &["-"], &["--x"], &[""]] {
+    for words in [
+        [].as_slice(),
+        &["one.c", "one.c"],
+        &["a", "b", "c", "d"],
+        &["a", "b", "-c"],
+        &["-"],
+        &["--x"],
+        &[""],
+    ] {
         let played = call(
             rt.alloc(),
             words,
-            files(rt.alloc(), FIRST, 0)?,
+            one(rt.alloc(), FIRST, 0)?,
             STEADY,
             STEADY,
         )?;
@@ -185,7 +217,7 @@ fn file_that_cannot_be_read(rt: HostRuntime) -> Result<(), Fail> {
         let played = call(
             rt.alloc(),
             &[name],
-            files(rt.alloc(), FIRST, fail_on)?,
+            one(rt.alloc(), FIRST, fail_on)?,
             STEADY,
             STEADY,
         )?;
@@ -217,7 +249,7 @@ fn each_write_fails_in_turn(rt: HostRuntime) -> Result<(), Fail> {
             let played = call(
                 rt.alloc(),
                 &["one.c"],
-                files(rt.alloc(), APPEND, 0)?,
+                one(rt.alloc(), APPEND, 0)?,
                 broken,
                 STEADY,
             )?;
@@ -233,7 +265,7 @@ fn each_write_fails_in_turn(rt: HostRuntime) -> Result<(), Fail> {
             let played = call(
                 rt.alloc(),
                 &["one.c"],
-                files(rt.alloc(), APPEND, 0)?,
+                one(rt.alloc(), APPEND, 0)?,
                 STEADY,
                 broken,
             )?;
@@ -248,7 +280,7 @@ fn each_write_fails_in_turn(rt: HostRuntime) -> Result<(), Fail> {
         let played = call(
             rt.alloc(),
             &["one.c"],
-            files(rt.alloc(), APPEND, 0)?,
+            one(rt.alloc(), APPEND, 0)?,
             steady,
             steady,
         )?;
@@ -264,18 +296,127 @@ fn a_refusal_keeps_its_answer_where_the_log_fails(rt: HostRuntime) -> Result<(),
             piece,
             fail_on: failing,
         };
-        let played = call(
-            rt.alloc(),
-            &[],
-            files(rt.alloc(), FIRST, 0)?,
-            STEADY,
-            broken,
-        )?;
+        let played = call(rt.alloc(), &[], one(rt.alloc(), FIRST, 0)?, STEADY, broken)?;
         assert_eq!(rt; played.status, Status::Words);
         assert!(rt; played.out.is_empty());
         assert_eq!(rt;
             played.log.as_slice(),
             front("refuse words\n", piece, failing)
+        );
+    }
+    Ok(())
+}
+
+// A run of a version, a blank rule file, and the next version.
+fn update(alloc: Global, old: &str, new: &str) -> Result<Played, AllocError> {
+    let texts = files(
+        alloc,
+        &[("old.c", old), ("rules", " \t\r\n"), ("new.c", new)],
+        0,
+    )?;
+    call(alloc, &["old.c", "rules", "new.c"], texts, STEADY, STEADY)
+}
+
+#[test]
+fn loop_updated_once(rt: HostRuntime) -> Result<(), Fail> {
+    let played = update(rt.alloc(), LOOP_A, LOOP_B)?;
+    expect(&rt, &played, Status::Main(0), "bbbbb", UPDATED);
+    Ok(())
+}
+
+#[test]
+fn point_missing_in_new_version(rt: HostRuntime) -> Result<(), Fail> {
+    let played = update(rt.alloc(), LOOP_A, OTHER_POINT)?;
+    let journal = "kit 1\nask 1\nturn 0 4\nclose 1 refused point 0\nturn 0 29\nend main 0\n";
+    expect(&rt, &played, Status::Main(0), "aaaaa", journal);
+    Ok(())
+}
+
+#[test]
+fn globals_dropped_and_added(rt: HostRuntime) -> Result<(), Fail> {
+    let played = update(rt.alloc(), TWO_GLOBALS, LOOP_B)?;
+    expect(&rt, &played, Status::Main(0), "bbbbb", UPDATED);
+    // A new global keeps its initial value. Its load takes one turn more in each of the five bodies.
+    let played = update(rt.alloc(), LOOP_A, NEW_GLOBAL)?;
+    let journal =
+        "kit 1\nask 1\nturn 0 4\nclose 1 ok 0\nturn 0 4\nmain 1\nback 1\nturn 0 34\nend main 0\n";
+    expect(&rt, &played, Status::Main(0), "AAAAA", journal);
+    Ok(())
+}
+
+#[test]
+fn updates_that_end_early(rt: HostRuntime) -> Result<(), Fail> {
+    // The program never comes to a point.
+    let played = update(rt.alloc(), FIRST, LOOP_B)?;
+    expect(
+        &rt,
+        &played,
+        Status::Main(0),
+        "A",
+        "kit 1\nask 1\nturn 0 2\nend main 0\n",
+    );
+    // A trap between the closing and the point.
+    let parks = "int n; int main(){kitsune_update(\"loop\");return n;}";
+    let traps = "int n=2147483647; int main(){n=n+1;kitsune_update(\"loop\");return n;}";
+    let played = update(rt.alloc(), parks, traps)?;
+    let status = Status::Trap {
+        thread: 0,
+        cause: Trap::Overflow,
+    };
+    let journal = "kit 1\nask 1\nturn 0 1\nclose 1 ok 0\nturn 0 2\nend trap 0 overflow\n";
+    expect(&rt, &played, status, "", journal);
+    // On the way to its point the thread passes a point of another name.
+    let passes = "int n; int main(){kitsune_update(\"other\");kitsune_update(\"loop\");return n;}";
+    let played = update(rt.alloc(), parks, passes)?;
+    let journal =
+        "kit 1\nask 1\nturn 0 1\nclose 1 ok 0\nturn 0 2\nmain 1\nback 1\nturn 0 2\nend main 0\n";
+    expect(&rt, &played, Status::Main(0), "", journal);
+    Ok(())
+}
+
+#[test]
+fn the_first_file_outside_is_refused(rt: HostRuntime) -> Result<(), Fail> {
+    for (old, rules, new, file) in [
+        ("x", "y", "z", 1),
+        (FIRST, "y", "z", 2),
+        (FIRST, "", "z", 3),
+        (FIRST, "// ", FIRST, 2),
+    ] {
+        let texts = files(
+            rt.alloc(),
+            &[("old.c", old), ("rules", rules), ("new.c", new)],
+            0,
+        )?;
+        let played = call(
+            rt.alloc(),
+            &["old.c", "rules", "new.c"],
+            texts,
+            STEADY,
+            STEADY,
+        )?;
+        let cause = Cause::Later(0);
+        assert_eq!(rt; played.status, Status::Refused { file, cause });
+    }
+    // Files are read before any is judged; the third of them is missing, or its read fails.
+    for (third, fail_on) in [("none.c", 0), ("new.c", 3)] {
+        let texts = files(
+            rt.alloc(),
+            &[("old.c", "x"), ("rules", ""), ("new.c", FIRST)],
+            fail_on,
+        )?;
+        let played = call(
+            rt.alloc(),
+            &["old.c", "rules", third],
+            texts,
+            STEADY,
+            STEADY,
+        )?;
+        expect(
+            &rt,
+            &played,
+            Status::ReadFault(Which::File(3)),
+            "",
+            "refuse read 3\n",
         );
     }
     Ok(())

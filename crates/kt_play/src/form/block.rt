@@ -29,18 +29,20 @@ pub(crate) fn behind_last_brace(tokens: &[Token]) -> Option<&[Token]>
 fn inner<'t>(
     alloc: Memory,
     globals: &[Global],
+    points: &[Items<u8>],
     braces: u8,
     tokens: &'t [Token],
 ) -> Result<(Items<Stmt>, &'t [Token]), Fault>
-    requires { length globals.now < 2 ^ 32 }
+    requires globals { length globals.now < 2 ^ 32 }
+    requires points { length points.now < 2 ^ 32 }
     ensures read { (limit : ℕ) → length tokens.now ≤ limit
-        → Gives (λ x. (block_of x.0, x.1.now)) result (inner_at (block_at limit globals.now) braces tokens.now) }
+        → Gives (λ x. (block_of x.0, x.1.now)) result (inner_at (block_at limit globals.now points.now) braces tokens.now) }
     ensures shorter { IfOk result (λ x. length x.1.now < length tokens.now) }
 {
     if braces == 0 {
         return Err(Fault::OutsideForm);
     }
-    block(alloc, globals, braces - 1, tokens)
+    block(alloc, globals, points, braces - 1, tokens)
 }
 
 /// The rest of a statement behind its head.
@@ -49,25 +51,29 @@ fn inner<'t>(
 fn complete<'t>(
     alloc: Memory,
     globals: &[Global],
+    points: &[Items<u8>],
     braces: u8,
     head: Head,
     tokens: &'t [Token],
 ) -> Result<(Stmt, &'t [Token]), Fault>
-    requires { length globals.now < 2 ^ 32 }
+    requires globals { length globals.now < 2 ^ 32 }
+    requires points { length points.now < 2 ^ 32 }
     ensures read { (limit : ℕ) → length tokens.now ≤ limit
-        → Gives (λ x. (statement_of x.0, x.1.now)) result (rest_at (block_at limit globals.now) braces head tokens.now) }
+        → Gives (λ x. (statement_of x.0, x.1.now)) result (rest_at (block_at limit globals.now points.now) braces head tokens.now) }
     ensures shorter { IfOk result (λ x. length x.1.now ≤ length tokens.now) }
 {
     match head {
         Head::Assign(place, expr) => Ok((Stmt::Assign(place, expr), tokens)),
         Head::Put(expr) => Ok((Stmt::Put(expr), tokens)),
         Head::Return(expr) => Ok((Stmt::Return(expr), tokens)),
+        Head::Update(point) => Ok((Stmt::Update(point), tokens)),
+        Head::Automigrate => Ok((Stmt::Automigrate, tokens)),
         Head::If(expr) => {
-            let (block, rest) = inner(alloc, globals, braces, tokens)?;
+            let (block, rest) = inner(alloc, globals, points, braces, tokens)?;
             Ok((Stmt::If(expr, block), rest))
         }
         Head::While(expr) => {
-            let (block, rest) = inner(alloc, globals, braces, tokens)?;
+            let (block, rest) = inner(alloc, globals, points, braces, tokens)?;
             Ok((Stmt::While(expr, block), rest))
         }
     }
@@ -78,16 +84,18 @@ fn complete<'t>(
 fn statement<'t>(
     alloc: Memory,
     globals: &[Global],
+    points: &[Items<u8>],
     braces: u8,
     tokens: &'t [Token],
 ) -> Result<(Stmt, &'t [Token]), Fault>
-    requires { length globals.now < 2 ^ 32 }
+    requires globals { length globals.now < 2 ^ 32 }
+    requires points { length points.now < 2 ^ 32 }
     ensures read { (limit : ℕ) → length tokens.now ≤ limit + 1
-        → Gives (λ x. (statement_of x.0, x.1.now)) result (statement_at (block_at limit globals.now) globals.now braces tokens.now) }
+        → Gives (λ x. (statement_of x.0, x.1.now)) result (statement_at (block_at limit globals.now points.now) globals.now points.now braces tokens.now) }
     ensures shorter { IfOk result (λ x. length x.1.now < length tokens.now) }
 {
-    let (head, behind) = statement_head(globals, tokens)?;
-    complete(alloc, globals, braces, head, behind)
+    let (head, behind) = statement_head(globals, points, tokens)?;
+    complete(alloc, globals, points, braces, head, behind)
 }
 
 /// The statements as far as a closing brace. `braces`: how many more may be open at once.
@@ -95,12 +103,14 @@ fn statement<'t>(
 pub(crate) fn block<'t>(
     alloc: Memory,
     globals: &[Global],
+    points: &[Items<u8>],
     braces: u8,
     tokens: &'t [Token],
 ) -> Result<(Items<Stmt>, &'t [Token]), Fault>
-    requires { length globals.now < 2 ^ 32 }
+    requires globals { length globals.now < 2 ^ 32 }
+    requires points { length points.now < 2 ^ 32 }
     ensures read { (limit : ℕ) → length tokens.now ≤ limit
-        → Gives (λ x. (block_of x.0, x.1.now)) result (block_at limit globals.now braces tokens.now) }
+        → Gives (λ x. (block_of x.0, x.1.now)) result (block_at limit globals.now points.now braces tokens.now) }
     ensures shorter { IfOk result (λ x. length x.1.now < length tokens.now) }
 {
     let mut statements = Items::new(alloc);
@@ -109,7 +119,7 @@ pub(crate) fn block<'t>(
         if let Some(behind) = behind_last_brace(rest) {
             return Ok((statements, behind));
         }
-        let (statement, behind) = statement(alloc, globals, braces, rest)?;
+        let (statement, behind) = statement(alloc, globals, points, braces, rest)?;
         statements.push(statement)?;
         rest = behind;
     }

@@ -2,8 +2,8 @@ ghost use Rattle.std.specs.Prelude.{◌≡◌, ◌==◌, ◌≤◌, pos, min, op
 ghost use Rattle.std.specs.List.{prefix_len, list_all};
 ghost use Rattle.std.specs.Option.{option_map};
 ghost use Rattle.std.specs.Char.{is_ascii_digit};
-ghost use Rattle.kt_play.specs.Pieces.{Mark, is_blank, begins_word, is_word_byte, is_character, decimal_value, has_leading_zero, is_decimal, sign_continues, first_is};
-ghost use Rattle.kt_play.specs.Reading.{Gives, as_token, checked, word_at, number_at, escape_at, character_at, single_sign, other_sign_at, sign_at, piece_at};
+ghost use Rattle.kt_play.specs.Pieces.{Mark, is_blank, begins_word, is_word_byte, is_character, is_point_byte, decimal_value, has_leading_zero, is_decimal, sign_continues, first_is};
+ghost use Rattle.kt_play.specs.Reading.{Gives, as_token, checked, word_at, number_at, escape_at, character_at, closed_at, text_at, single_sign, other_sign_at, sign_at, piece_at};
 
 use super::fault::Fault;
 use super::token::{Sign, Token};
@@ -73,6 +73,46 @@ fn character(bytes: &[u8]) -> Result<(Option<Token>, &[u8]), Fault>
         }
         _ => Err(Fault::OutsideForm),
     }
+}
+
+/// A letter, a digit, `_` or `-`.
+fn is_point_byte(byte: u8) -> bool
+    ensures { result ≡ is_point_byte byte }
+{
+    is_word_byte(byte) || byte == b'-'
+}
+
+/// How many bytes that the name of an update point may have stand at the front.
+fn point_length(bytes: &[u8]) -> usize
+    ensures value { result ≡ prefix_len is_point_byte bytes.now }
+    ensures within { result ≤ length bytes.now }
+{
+    bytes
+        .iter()
+        .take_while(|byte| is_point_byte(**byte))
+        .count()
+}
+
+/// The string of these bytes, where a quote follows.
+fn closed<'a>(
+    alloc: Global,
+    bytes: &[u8],
+    behind: &'a [u8],
+) -> Result<(Option<Token>, &'a [u8]), Fault>
+    ensures { Gives (λ x. (option_to_list x.0, x.1.now)) result (as_token (closed_at bytes.now behind.now)) }
+{
+    match behind {
+        [b'"', rest @ ..] => Ok((Some(Token::Text(Items::from_slice(alloc, bytes)?)), rest)),
+        _ => Err(Fault::OutsideForm),
+    }
+}
+
+#[tactic(auto, unfolding(crate::specs::Reading::text_at))]
+fn text(alloc: Global, bytes: &[u8]) -> Result<(Option<Token>, &[u8]), Fault>
+    ensures { Gives (λ x. (option_to_list x.0, x.1.now)) result (as_token (text_at bytes.now)) }
+{
+    let (text, behind) = bytes.split_at(point_length(bytes));
+    closed(alloc, text, behind)
 }
 
 /// The sign of one byte.
@@ -216,6 +256,8 @@ pub(crate) fn piece(alloc: Global, bytes: &[u8]) -> Result<(Option<Token>, &[u8]
                 number(bytes)
             } else if *first == b'\'' {
                 character(rest)
+            } else if *first == b'"' {
+                text(alloc, rest)
             } else if is_blank(*first) {
                 Ok((None, rest))
             } else {

@@ -1,10 +1,12 @@
 // The program that a text spells.
 
 ghost use Rattle.std.specs.Prelude.{◌≡◌, ◌≤◌, length, IfOk, MatchOption, MatchResult};
-ghost use Rattle.kt_play.specs.Form.{Source, source_of, IsProgramText};
+ghost use Rattle.kt_meaning.specs.Tree.{Version, version_of};
+ghost use Rattle.kt_play.specs.Form.{IsProgramText};
 ghost use Rattle.kt_play.specs.Reading.{WhenOutside};
 
 use super::fault::Fault;
+use super::points::points;
 use super::scan::tokens;
 use super::source::source;
 use kt_meaning::tree::Program;
@@ -15,17 +17,18 @@ const MOST: usize = 262_144;
 
 fn short_program(alloc: Global, bytes: &[u8]) -> Result<Program, Fault>
     requires { length bytes.now ≤ 262144 }
-    ensures { MatchResult result (λ p. IsProgramText bytes.now (source_of p))
-        (λ e. WhenOutside e ((s : Source) → IsProgramText bytes.now s → ⊥)) }
+    ensures { MatchResult result (λ p. IsProgramText bytes.now (version_of p))
+        (λ e. WhenOutside e ((s : Version) → IsProgramText bytes.now s → ⊥)) }
 {
     let tokens = tokens(alloc, bytes)?;
-    source(alloc, tokens.as_slice())
+    let points = points(alloc, tokens.as_slice())?;
+    source(alloc, points, tokens.as_slice())
 }
 
 /// The program that the text of a file spells, or `None` exactly where it is the text of no program of the form.
 pub fn read_program(alloc: Global, bytes: &[u8]) -> Result<Option<Program>, AllocError>
-    ensures program { IfOk result (λ o. MatchOption o ((s : Source) → IsProgramText bytes.now s → ⊥)
-        (λ p. IsProgramText bytes.now (source_of p))) }
+    ensures program { IfOk result (λ o. MatchOption o ((s : Version) → IsProgramText bytes.now s → ⊥)
+        (λ p. IsProgramText bytes.now (version_of p))) }
 {
     if bytes.len() > MOST {
         return Ok(None);
@@ -39,7 +42,5 @@ pub fn read_program(alloc: Global, bytes: &[u8]) -> Result<Option<Program>, Allo
 
 /// One text is the text of at most one program.
 pub fn one_program(bytes: &[u8])
-    ensures { (p q : Source) → IsProgramText bytes.now p → IsProgramText bytes.now q → p ≡ q }
-{
-    let _ = bytes;
-}
+    ensures { (p q : Version) → IsProgramText bytes.now p → IsProgramText bytes.now q → p ≡ q }
+{}

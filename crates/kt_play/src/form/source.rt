@@ -4,8 +4,8 @@ ghost use Rattle.std.specs.Prelude.{◌≡◌, ◌<◌, ◌≤◌, ◌+◌, ◌^
 ghost use Rattle.std.specs.Option.{option_map};
 ghost use Rattle.std.specs.List.{list_any};
 ghost use Rattle.std.specs.Str.{bytes_eq};
-ghost use Rattle.kt_meaning.specs.Tree.{block_of};
-ghost use Rattle.kt_play.specs.Form.{is_reserved, source_of};
+ghost use Rattle.kt_meaning.specs.Tree.{block_of, version_of};
+ghost use Rattle.kt_play.specs.Form.{is_reserved};
 ghost use Rattle.kt_play.specs.Reading.{Gives, is_new, initial_at, named_global_at, global_at, named_main_at, behind_name, behind_void, body_at, main_at, source_at};
 
 use super::block::block;
@@ -181,11 +181,17 @@ fn behind_void(tokens: &[Token]) -> &[Token]
 
 /// The body of `main`, with nothing behind it.
 #[tactic(auto, unfolding(crate::specs::Reading::body_at))]
-fn body(alloc: Memory, globals: &[Global], tokens: &[Token]) -> Result<Items<Stmt>, Fault>
-    requires { length globals.now < 2 ^ 32 }
-    ensures { Gives block_of result (body_at globals.now tokens.now) }
+fn body(
+    alloc: Memory,
+    globals: &[Global],
+    points: &[Items<u8>],
+    tokens: &[Token],
+) -> Result<Items<Stmt>, Fault>
+    requires globals { length globals.now < 2 ^ 32 }
+    requires points { length points.now < 2 ^ 32 }
+    ensures { Gives block_of result (body_at globals.now points.now tokens.now) }
 {
-    let (body, rest) = block(alloc, globals, 49, tokens)?;
+    let (body, rest) = block(alloc, globals, points, 49, tokens)?;
     if rest.len() == 0 {
         Ok(body)
     } else {
@@ -195,25 +201,40 @@ fn body(alloc: Memory, globals: &[Global], tokens: &[Token]) -> Result<Items<Stm
 
 /// What stands behind `int main`.
 #[tactic(auto, unfolding(crate::specs::Reading::main_at))]
-fn main_body(alloc: Memory, globals: &[Global], tokens: &[Token]) -> Result<Items<Stmt>, Fault>
-    requires { length globals.now < 2 ^ 32 }
-    ensures { Gives block_of result (main_at globals.now tokens.now) }
+fn main_body(
+    alloc: Memory,
+    globals: &[Global],
+    points: &[Items<u8>],
+    tokens: &[Token],
+) -> Result<Items<Stmt>, Fault>
+    requires globals { length globals.now < 2 ^ 32 }
+    requires points { length points.now < 2 ^ 32 }
+    ensures { Gives block_of result (main_at globals.now points.now tokens.now) }
 {
     let rest = behind_close(behind_void(behind_open(tokens)?))?;
-    body(alloc, globals, behind_brace(rest)?)
+    body(alloc, globals, points, behind_brace(rest)?)
 }
 
 /// The program that the tokens spell.
-pub(crate) fn source(alloc: Memory, tokens: &[Token]) -> Result<Program, Fault>
-    requires { length tokens.now < 2 ^ 32 }
-    ensures { Gives source_of result (source_at (length tokens.now) [] tokens.now) }
+pub(crate) fn source(
+    alloc: Memory,
+    points: Items<Items<u8>>,
+    tokens: &[Token],
+) -> Result<Program, Fault>
+    requires few { length tokens.now < 2 ^ 32 }
+    requires points { length points < 2 ^ 32 }
+    ensures { Gives version_of result (source_at points (length tokens.now) [] tokens.now) }
 {
     let mut globals = Items::new(alloc);
     let mut rest = tokens;
     loop {
         if let Some(behind) = behind_name(rest) {
-            let body = main_body(alloc, globals.as_slice(), behind)?;
-            return Ok(Program { globals, body });
+            let body = main_body(alloc, globals.as_slice(), points.as_slice(), behind)?;
+            return Ok(Program {
+                globals,
+                points,
+                body,
+            });
         }
         let (global, behind) = global(alloc, globals.as_slice(), rest)?;
         globals.push(global)?;

@@ -6,15 +6,23 @@ fn trees_of_texts(rt: HostRuntime) -> Result<(), Fail> {
     for (text, want) in [
         (
             b"int main(){putchar('a');return 0;}".as_slice(),
-            "Some(Program { globals: Items { items: [] }, body: Items { items: [Put(Single(Character(97))), Return(Single(Number(0)))] } })",
+            "Some(Program { globals: Items { items: [] }, points: Items { items: [] }, body: Items { items: [Put(Single(Character(97))), Return(Single(Number(0)))] } })",
         ),
         (
             b"int n; int main(){while(n<3){putchar('a');n=n+1;}return n;}".as_slice(),
-            "Some(Program { globals: Items { items: [Global { name: Items { items: [110] }, initial: None }] }, body: Items { items: [While(Binary(Less, Global(0), Number(3)), Items { items: [Put(Single(Character(97))), Assign(0, Binary(Add, Global(0), Number(1)))] }), Return(Single(Global(0)))] } })",
+            "Some(Program { globals: Items { items: [Global { name: Items { items: [110] }, initial: None }] }, points: Items { items: [] }, body: Items { items: [While(Binary(Less, Global(0), Number(3)), Items { items: [Put(Single(Character(97))), Assign(0, Binary(Add, Global(0), Number(1)))] }), Return(Single(Global(0)))] } })",
+        ),
+        (
+            b"int x; int main(){while(x<5){kitsune_update(\"loop\");putchar('a');x=x+1;}return 0;}".as_slice(),
+            "Some(Program { globals: Items { items: [Global { name: Items { items: [120] }, initial: None }] }, points: Items { items: [Items { items: [108, 111, 111, 112] }] }, body: Items { items: [While(Binary(Less, Global(0), Number(5)), Items { items: [Update(0), Put(Single(Character(97))), Assign(0, Binary(Add, Global(0), Number(1)))] }), Return(Single(Number(0)))] } })",
+        ),
+        (
+            b"int main(){kitsune_update(\"b\");kitsune_update(\"\");kitsune_do_automigrate();kitsune_update(\"b\");kitsune_update(\"\");}".as_slice(),
+            "Some(Program { globals: Items { items: [] }, points: Items { items: [Items { items: [98] }, Items { items: [] }] }, body: Items { items: [Update(0), Update(1), Automigrate, Update(0), Update(1)] } })",
         ),
         (
             b"int a=7;int\tb ;\r\nint main ( void ) { if ( b == a ) { b = a - '\\n' ; } }\n".as_slice(),
-            "Some(Program { globals: Items { items: [Global { name: Items { items: [97] }, initial: Some(7) }, Global { name: Items { items: [98] }, initial: None }] }, body: Items { items: [If(Binary(Equal, Global(1), Global(0)), Items { items: [Assign(1, Binary(Subtract, Global(0), Character(10)))] })] } })",
+            "Some(Program { globals: Items { items: [Global { name: Items { items: [97] }, initial: Some(7) }, Global { name: Items { items: [98] }, initial: None }] }, points: Items { items: [] }, body: Items { items: [If(Binary(Equal, Global(1), Global(0)), Items { items: [Assign(1, Binary(Subtract, Global(0), Character(10)))] })] } })",
         ),
     ] {
         let program = read_program(rt.alloc(), text)?;
@@ -37,6 +45,8 @@ fn texts_of_programs(rt: HostRuntime) -> Result<(), Fail> {
         b"int Main; int returnx; int main(){returnx=Main;return Main;}".as_slice(),
         b"int _1; int main(){return _1<_1;}".as_slice(),
         b"int a;int main(){return a==0;}".as_slice(),
+        b"int main(){kitsune_update(\"other\");}".as_slice(),
+        b"int main(){kitsune_update ( \"A-z_09\" ) ;}".as_slice(),
     ] {
         let program = read_program(rt.alloc(), text)?;
         assert!(rt; program.is_some(), "refused: {text:?}");
@@ -90,6 +100,15 @@ fn texts_of_no_program(rt: HostRuntime) -> Result<(), Fail> {
         b"int main(){return 1;".as_slice(),
         b"intmain(){}".as_slice(),
         b"int main(int){}".as_slice(),
+        b"int main(){kitsune_update(\"a b\");}".as_slice(),
+        b"int main(){kitsune_update(\"a\\n\");}".as_slice(),
+        b"int main(){kitsune_update(\"a);}".as_slice(),
+        b"int main(){kitsune_update(\"a\"\"b\");}".as_slice(),
+        b"int main(){kitsune_update();}".as_slice(),
+        b"int main(){kitsune_update(a);}".as_slice(),
+        b"int main(){kitsune_do_automigrate(\"x\");}".as_slice(),
+        b"int main(){putchar(\"a\");}".as_slice(),
+        b"int kitsune_update;int main(){}".as_slice(),
     ] {
         let program = read_program(rt.alloc(), text)?;
         assert!(rt; program.is_none(), "accepted: {text:?}");

@@ -26,5 +26,7 @@ pub(crate) enum Token {
     Number(i32),
     /// The value of a character constant.
     Character(u8),
+    /// The bytes of a string literal.
+    Text(Items<u8>),
     Mark(Sign),
 }

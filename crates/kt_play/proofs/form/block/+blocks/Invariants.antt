@@ -15,7 +15,7 @@ abbrev pub decreases-statement : goal.decreases-statement
 decreases-statement l = 4 * l.braces + 2
 
 abbrev pub invariant-block-loop-behind : goal.invariant-block-loop-behind
-invariant-block-loop-behind l = IsReadTo l.globals l.braces l.tokens l.statements l.rest
+invariant-block-loop-behind l = IsReadTo l.globals l.points l.braces l.tokens l.statements l.rest
 
 abbrev pub decreases-block-loop-behind : goal.decreases-block-loop-behind
 decreases-block-loop-behind l = length l.rest

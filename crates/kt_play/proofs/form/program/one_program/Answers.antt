@@ -1,5 +1,5 @@
-use Rattle.kt_play.proofs.Programs.{one_source}
+use Rattle.kt_play.proofs.Programs.{IsProgramText-unique}
 use Rattle.kt_play.proofs.form.program.one_program.Goals as goal
 
 pub returns : goal.returns
-returns c = one_source c.args.bytes.now
+returns c = IsProgramText-unique c.args.bytes.now

@@ -10,5 +10,5 @@ returns-in_err-tokens c =
 
 pub returns : goal.returns
 returns c =
-    let read = rw c.as_slice.ensures.value at c.source.ensures in
+    let read = rw (c.as_slice-2.ensures.value, c.in_ok-points.ensures.points, c.as_slice.ensures.value) at c.source.ensures in
     program_is_read c.args.bytes.now _ c.source.result c.requires c.in_ok-tokens.ensures.read read
