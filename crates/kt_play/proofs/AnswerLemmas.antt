@@ -1,8 +1,8 @@
 -- From an answer and its cause to each promise of the top call.
-use Rattle.std.specs.Prelude.{◌≡◌, ◌≢◌, ℕ, zero, suc, ◌⊎◌, ◌↔◌, List, [], ◌∷◌, slice_get, Option, Some, None, IfSome, refl}
+use Rattle.std.specs.Prelude.{◌≡◌, ℕ, zero, suc, ◌⊎◌, ◌↔◌, List, [], ◌∷◌, slice_get, Option, Some, None, IfSome, refl}
 use Rattle.std.proofs.Common.{inl, inr, sym, subst, ap, ◌∙◌}
 use Rattle.kt_edge.specs.Count.{Rose}
-use Rattle.kt_edge.specs.FileMap.{FileMap, Holds, Tells, Lacks, bytes_of}
+use Rattle.kt_edge.specs.FileMap.{FileMap, Holds, Tells, Lacks}
 use Rattle.kt_edge.specs.Writes.{Writes, TakesOrFails}
 use Rattle.kt_world.specs.declared.mark.End.{End}
 use Rattle.kt_play.specs.declared.refusal.Refusal.{Refusal}
@@ -13,15 +13,14 @@ use Rattle.kt_play.specs.declared.status.Which.{Which}
 use Rattle.kt_play.specs.declared.status.Which.TheVariants.{File}
 use Rattle.kt_play.specs.declared.status.Status.{Status}
 use Rattle.kt_play.specs.declared.status.Status.TheVariants.{Main, Trap, Budget, Words, ReadFault, Refused, WriteFault, NoMemory}
-use Rattle.kt_play.specs.Answer.{Call, IsAnswer, IsRan, IsTurnedAway, IsRunOfWords, HasPlayed, HasFailed, IsUnread, IsRefusedFile, EndsOrLacksMemory}
+use Rattle.kt_play.specs.Answer.{Call, IsAnswer, IsTurnedAway, HasPlayed, HasFailed, IsUnread, IsRefusedFile, EndsOrLacksMemory}
 use Rattle.kt_world.specs.Job.{Job}
-use Rattle.kt_play.specs.Form.{IsProgramText}
-use Rattle.kt_play.specs.Job.{HoldAll, TellAll, IsJobText, IsFirstOutside, IsOutsideOfThree, HasProgramText, IsBlankText, IsNoProgramText}
+use Rattle.kt_play.specs.Job.{HoldAll, TellAll, IsJobText, IsFirstOutside, IsOutsideOfThree}
 use Rattle.kt_play.specs.Order.{order_of}
 use Rattle.kt_play.proofs.Programs.{IsProgramText-unique}
-use Rattle.kt_play.specs.Outcome.{FailsToWrite, IsRefused, LogsLine}
-use Rattle.kt_play.specs.Run.{IsRun, IsNamed, IsAccepted, IsOutsideForm, IsUnreadFile, HasJob, IsCause, IsCauseFor, IsWhole, IsPart, IsOutcome}
-use Rattle.kt_play.specs.Status.{end_of, refusal_line, status_of}
+use Rattle.kt_play.specs.Outcome.{IsRefused}
+use Rattle.kt_play.specs.Run.{IsNamed, IsAccepted, HasJob, IsCause, IsWhole, IsPart, IsOutcome}
+use Rattle.kt_play.specs.Status.{end_of, refusal_line}
 
 -- ---- the headline
 

@@ -3,7 +3,7 @@ use Rattle.std.proofs.Common.{◌≡◌, ℕ, zero, suc, ◌+◌, ◌-◌, ◌<�
 use Rattle.std.proofs.lemmas.List.{length-append}
 use Rattle.kt_meaning.specs.declared.tree.Global.{Global}
 use Rattle.kt_meaning.specs.declared.tree.Stmt.{Stmt, If, While}
-use Rattle.kt_meaning.specs.Tree.{Statement, Block, Empty, Then, statement_of, block_of}
+use Rattle.kt_meaning.specs.Tree.{Block, Empty, Then, statement_of, block_of}
 use Rattle.kt_play.specs.declared.form.token.Token.{Token}
 use Rattle.kt_play.specs.declared.form.fault.Fault.{Fault}
 use Rattle.kt_play.specs.declared.form.fault.Fault.TheVariants.{NoMemory, OutsideForm}

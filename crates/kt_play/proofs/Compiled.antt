@@ -1,5 +1,5 @@
 -- One code more.
-use Rattle.std.specs.Prelude.{◌≡◌, ℕ, zero, suc, ◌+◌, ◌<◌, List, [], ◌∷◌, ◌++◌, length, map, take, Option, Some, None, slice_get, slice_index_or, refl}
+use Rattle.std.specs.Prelude.{◌≡◌, ℕ, zero, suc, ◌+◌, ◌<◌, List, [], ◌∷◌, ◌++◌, length, map, take, slice_index_or, refl}
 use Rattle.std.proofs.Common.{arith, sym, subst, ap, ◌∙◌}
 use Rattle.kt_meaning.specs.Steps.{DoesSameActs}
 use Rattle.kt_meaning.specs.Thread.{entry, settle}
@@ -7,7 +7,6 @@ use Rattle.kt_meaning.specs.declared.tree.Program.{Program}
 use Rattle.kt_meaning.specs.Tree.{Version, version_of}
 use Rattle.kt_codegen.specs.declared.instr.Instr.{Instr}
 use Rattle.kt_codegen.specs.Machine.{machine_settle, start}
-use Rattle.kt_play.specs.Engine.{code_at}
 use Rattle.kt_play.specs.Acts.{DoTheSameActs}
 
 more : (vs : List Version) (v : Version) (codes : List (List Instr)) (code : List Instr) → length codes ≡ length vs → DoTheSameActs vs codes →

@@ -1,10 +1,9 @@
 -- From the first bytes of files to the files.
-use Rattle.std.specs.Prelude.{◌≡◌, ℕ, zero, suc, ◌+◌, ◌≤◌, ◌⊎◌, List, [], ◌∷◌, Option, Result, Ok, Err, IfOk, IfErr, length, take, slice_get, Some, refl}
+use Rattle.std.specs.Prelude.{◌≡◌, ℕ, suc, ◌≤◌, List, [], ◌∷◌, Option, Result, Ok, Err, IfOk, IfErr, length, slice_get, Some, refl}
 use Rattle.std.proofs.Common.{arith, sym, subst, ◌∙◌, ap, inl, inr}
 use Rattle.std.proofs.lemmas.List.{length-take, take_all}
 use Rattle.kt_meaning.specs.Tree.{Version}
 use Rattle.kt_world.specs.declared.job.Job.{Job}
-use Rattle.kt_world.specs.Job as plain
 use Rattle.kt_world.specs.Plain.{job_of}
 use Rattle.kt_edge.specs.Count.{Rose}
 use Rattle.kt_edge.specs.FileMap.{FileMap, Holds, Lacks, StartsFile}
@@ -13,9 +12,9 @@ use Rattle.kt_play.specs.declared.refusal.Refusal.TheVariants.{Words, Read, File
 use Rattle.kt_play.specs.declared.status.Cause.TheVariants.{Later}
 use Rattle.kt_play.specs.declared.status.Which.TheVariants as which
 use Rattle.kt_play.specs.Form.{IsProgramText}
-use Rattle.kt_play.specs.Job.{IsBlankText, IsJobText, IsFirstOutside, IsNoProgramText, HasProgramText}
+use Rattle.kt_play.specs.Job.{IsBlankText, IsJobText, IsNoProgramText, HasProgramText}
 use Rattle.kt_play.specs.Prepared.{IsReadCause, IsNoJob}
-use Rattle.kt_play.specs.Run.{HasJob, IsCauseFor, IsUnreadFile, IsOutsideForm}
+use Rattle.kt_play.specs.Run.{HasJob, IsCauseFor}
 
 -- the bytes of a file and its first ones: the same where either are within the limit
 record IsAlike (bytes start : List ℕ) : Type 0 where

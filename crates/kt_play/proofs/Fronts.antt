@@ -1,5 +1,5 @@
 -- A piece is read at the front of a text exactly where it stands there.
-use Rattle.std.proofs.Common.{◌≡◌, ℕ, zero, suc, ◌+◌, ◌-◌, ◌<◌, ◌≤◌, Bool, true, false, not, cond, ◌&&◌, ◌||◌, List, [], ◌∷◌, ◌++◌, length, take, drop, Option, Some, None, refl, sym, ap, subst, ◌∙◌, arith, inl, inr, ◌⊎◌, append_assoc}
+use Rattle.std.proofs.Common.{◌≡◌, ℕ, suc, ◌+◌, Bool, true, false, not, cond, ◌&&◌, List, [], ◌∷◌, ◌++◌, length, take, drop, Option, Some, None, refl, sym, ap, subst, ◌∙◌, arith, inl, inr, ◌⊎◌, append_assoc}
 use Rattle.std.specs.Prelude.{◌==◌}
 use Rattle.std.specs.List.{prefix_len, list_all}
 use Rattle.std.specs.Char.{is_ascii_digit}
@@ -8,8 +8,8 @@ use Rattle.std.proofs.lemmas.List.{take_at, drop_at, take-append-drop}
 use Rattle.std.proofs.lemmas.Option.{cond_some, same_Some}
 use Rattle.kt_play.specs.declared.form.token.Sign.{Sign}
 use Rattle.kt_play.specs.declared.form.token.Sign.TheVariants.{OpenParenthesis, CloseParenthesis, OpenBrace, CloseBrace, Semicolon, Assign, Equal, Plus, Minus, Less}
-use Rattle.kt_play.specs.Pieces.{Piece, Blank, Letters, Digits, Quoted, Text, Mark, is_blank, begins_word, is_word_byte, is_word, is_decimal, is_character, is_point_byte, is_well_spelled, sign_spelling, spelling, sign_continues, continues, first_is, goes_on}
-use Rattle.kt_play.specs.Reading.{◌>>=◌, checked, word_at, number_at, escape_at, character_at, closed_at, text_at, single_sign, other_sign_at, sign_at, piece_at}
+use Rattle.kt_play.specs.Pieces.{Piece, Blank, Letters, Digits, Quoted, Text, Mark, is_blank, begins_word, is_word_byte, is_character, is_point_byte, is_well_spelled, sign_spelling, spelling, first_is, goes_on}
+use Rattle.kt_play.specs.Reading.{◌>>=◌, checked, word_at, number_at, escape_at, character_at, closed_at, text_at, single_sign, sign_at, piece_at}
 
 -- the piece stands at the front, and this is the rest
 pub record Stands (p : Piece) (bytes rest : List ℕ) : Type 0 where

@@ -1,5 +1,5 @@
 -- A whole program is read exactly where it stands.
-use Rattle.std.proofs.Common.{◌≡◌, ℕ, zero, suc, ◌+◌, ◌<◌, ◌≤◌, Bool, true, false, ◌&&◌, cond, List, [], ◌∷◌, ◌++◌, length, Option, Some, None, refl, sym, ap, subst, ◌∙◌, arith, inl, inr, append_assoc, ℤ}
+use Rattle.std.proofs.Common.{◌≡◌, ℕ, zero, suc, ◌+◌, ◌≤◌, Bool, true, false, ◌&&◌, cond, List, [], ◌∷◌, ◌++◌, length, Option, Some, None, refl, sym, ap, subst, ◌∙◌, arith, inl, inr, append_assoc, ℤ}
 use Rattle.std.specs.Prelude.{codes, flat_map, ◌==◌}
 use Rattle.std.specs.Str.{bytes_eq}
 use Rattle.std.proofs.lemmas.Option.{same_Some, cond_some}
@@ -16,13 +16,13 @@ use Rattle.kt_play.specs.declared.form.fault.Fault.{Fault}
 use Rattle.kt_play.specs.declared.form.fault.Fault.TheVariants.{NoMemory, OutsideForm}
 use Rattle.kt_play.specs.Pieces.{HasTokens}
 use Rattle.kt_play.proofs.Scans.{HasTokens-unique}
-use Rattle.kt_play.specs.Reading.{◌>>=◌, matched, behind_open, behind_close, behind_brace, behind_void, behind_name, named_main_at, is_new, initial_at, named_global_at, global_at, block_at, body_at, main_at, source_at, Gives, WhenOutside}
+use Rattle.kt_play.specs.Reading.{◌>>=◌, matched, behind_open, behind_close, behind_brace, behind_void, behind_name, is_new, initial_at, global_at, block_at, body_at, main_at, source_at, Gives, WhenOutside}
 use Rattle.kt_play.proofs.Fronts.{either, first, second, and_true}
 use Rattle.kt_play.proofs.Names.{bytes_eq-is, bytes_eq-unreserved, AreNamed-push, is_new-within, is_free-within}
 use Rattle.std.proofs.lemmas.Bool.Decides.{nat_tests}
-use Rattle.kt_play.proofs.Terms.{Step, bind_some, behind_open-is, behind_close-is, behind_brace-is}
+use Rattle.kt_play.proofs.Terms.{bind_some, behind_open-is, behind_close-is, behind_brace-is}
 use Rattle.kt_play.proofs.Points.{AreDistinct, first_places-distinct}
-use Rattle.kt_play.proofs.Trees.{BlockStands, block_at-is, block_at-again}
+use Rattle.kt_play.proofs.Trees.{block_at-is, block_at-again}
 
 -- ---- main
 

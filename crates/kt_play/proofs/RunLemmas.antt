@@ -1,7 +1,6 @@
 -- The machine stands for the world of the turns that it has taken.
-use Rattle.std.specs.Prelude.{◌≡◌, ℕ, zero, suc, ◌+◌, ◌-◌, ◌<◌, ◌≤◌, ◌==◌, ◌&&◌, List, [], ◌∷◌, length, map, Option, Some, None, is_some, Bool, true, false, not, replicate, slice_get, refl}
+use Rattle.std.specs.Prelude.{◌≡◌, ℕ, zero, suc, ◌+◌, ◌-◌, ◌<◌, ◌≤◌, ◌==◌, ◌&&◌, List, [], ◌∷◌, length, Option, Some, None, is_some, Bool, true, false, not, replicate, slice_get, refl}
 use Rattle.std.proofs.Common.{arith, sym, subst, ap, ◌∙◌, inl, inr}
-use Rattle.std.proofs.lemmas.Bool.{eq-eqb}
 use Rattle.std.proofs.lemmas.Bool.Decides.{eqb_tells}
 use Rattle.kt_meaning.specs.Steps.{DoesSameActs}
 use Rattle.kt_meaning.specs.Thread as tree
@@ -13,7 +12,7 @@ use Rattle.kt_world.specs.declared.mark.Mark.{Mark}
 use Rattle.kt_world.specs.declared.mark.Phase.{Phase}
 use Rattle.kt_world.specs.declared.mark.Phase.TheVariants.{Run, Asked, Main, Others}
 use Rattle.kt_world.specs.Job.{Job, version_at}
-use Rattle.kt_world.specs.World.{Engine, Shared, Thread, World}
+use Rattle.kt_world.specs.World.{Shared, Thread, World}
 use Rattle.kt_world.specs.Turn.{is_parked, is_live, is_turnable, is_enabled, turn, entry_of, tree_engine, first_world, world_from, world, MayTurn, MayTurnAll}
 use Rattle.kt_world.specs.Same.{IsSameWorld, AreSameEngines, AreSameThreads, IsSameWorld-trans, turn-same, first_world-same}
 use Rattle.kt_world.specs.Kept.{world_from-keeps}

@@ -1,5 +1,5 @@
 -- A thread that has taken its quiet steps is in the same state as before.
-use Rattle.std.specs.Prelude.{◌≡◌, ℕ, zero, suc, List, [], ◌∷◌, Option, Some, Result, Ok, Err, IfOk, OnOk, refl}
+use Rattle.std.specs.Prelude.{◌≡◌, ℕ, zero, suc, List, [], ◌∷◌, Some, Result, Ok, Err, IfOk, OnOk, refl}
 use Rattle.std.proofs.Common.{sym, subst, ap, ◌∙◌}
 use Rattle.kt_meaning.specs.declared.acts.Mode.{Mode}
 use Rattle.kt_meaning.specs.Steps.{Step, Quiet, Acts, Traps, Ends, IsHead, SameHead, AgreeFor, DoesSameActs}
@@ -8,8 +8,8 @@ use Rattle.kt_codegen.specs.declared.run.Head.{Head}
 use Rattle.kt_codegen.specs.Heads.{head_of}
 use Rattle.kt_codegen.specs.Machine.{State, machine_step, machine_settle}
 use Rattle.kt_codegen.specs.MachineSettling.{machine_settle-acts, machine_settle-traps, machine_settle-ends, machine_settle-settles}
-use Rattle.kt_world.specs.World.{Shared, Standing, Thread, World}
-use Rattle.kt_world.specs.Same.{IsSameWorld, AreSameEngines, DoesSameActs-refl, turn-same}
+use Rattle.kt_world.specs.World.{Shared, Standing, World}
+use Rattle.kt_world.specs.Same.{AreSameEngines, DoesSameActs-refl, turn-same}
 use Rattle.kt_world.specs.Turn.{act, counted, after_act, turn}
 use Rattle.kt_world.specs.Job.{Job}
 use Rattle.kt_play.specs.Engine.{code_at, machine_engine, IsInState, StandsAt}

@@ -1,5 +1,5 @@
 -- Expressions and heads of statements are read exactly where they stand.
-use Rattle.std.proofs.Common.{◌≡◌, ℕ, zero, suc, ◌+◌, ◌<◌, ◌≤◌, Bool, true, false, cond, List, [], ◌∷◌, ◌++◌, length, drop, Option, Some, None, refl, sym, ap, subst, ◌∙◌, arith, inl, inr, append_assoc}
+use Rattle.std.proofs.Common.{◌≡◌, ℕ, ◌<◌, true, false, List, [], ◌∷◌, ◌++◌, length, drop, Option, Some, None, refl, sym, ap, subst, ◌∙◌, inl, inr, append_assoc}
 use Rattle.std.specs.Prelude.{codes}
 use Rattle.std.specs.Str.{bytes_eq}
 use Rattle.std.proofs.lemmas.Option.{same_Some}
@@ -18,8 +18,8 @@ use Rattle.kt_play.specs.declared.form.head.Head.{Head}
 use Rattle.kt_play.specs.declared.form.head.Head.TheVariants as head
 use Rattle.kt_play.specs.Form.{name_of, point_of, operand_token, operator_sign, expr_tokens, parenthesised, is_reserved, place_of, AreNamed, IsDeclaredOperand, IsDeclaredExpr}
 use Rattle.kt_play.specs.Reading.{◌>>=◌, operand_at, operator_of, operator_at, binary_at, expr_at, behind_semicolon, behind_close, behind_open, behind_brace, behind_assign, behind_last_brace, ended_at, parenthesised_at, condition_at, put_at, assign_at, point_at, update_at, automigrate_at, call_at, worded_at, head_at}
-use Rattle.kt_play.proofs.Fronts.{either, first, second}
-use Rattle.kt_play.proofs.Points.{AreDistinct, PointStands, point_at-is, point_at-again}
+use Rattle.kt_play.proofs.Fronts.{either}
+use Rattle.kt_play.proofs.Points.{AreDistinct, point_at-is, point_at-again}
 use Rattle.kt_play.proofs.Names.{place_of-is, place_of-again, is_reserved-name_of, bytes_eq-is, bytes_eq-unreserved}
 
 -- the value of a step that gave one

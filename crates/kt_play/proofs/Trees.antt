@@ -1,19 +1,18 @@
 -- Statements and blocks are read exactly where they stand.
-use Rattle.std.proofs.Common.{◌≡◌, ℕ, zero, suc, ◌+◌, ◌<◌, ◌≤◌, max, Bool, true, false, List, [], ◌∷◌, ◌++◌, length, Option, Some, None, refl, sym, ap, subst, ◌∙◌, arith, inl, inr, append_assoc}
+use Rattle.std.proofs.Common.{◌≡◌, ℕ, zero, suc, ◌+◌, ◌<◌, ◌≤◌, List, [], ◌∷◌, ◌++◌, length, Option, Some, None, refl, sym, ap, subst, ◌∙◌, arith, append_assoc}
 use Rattle.std.proofs.lemmas.Option.{same_Some}
 use Rattle.std.proofs.lemmas.List.{length-append}
-use Rattle.kt_meaning.specs.declared.tree.Expr.{Expr}
 use Rattle.kt_meaning.specs.declared.tree.Global.{Global}
 use Rattle.kt_meaning.specs.Tree.{Statement, Assigning, Putting, Returning, Choosing, Looping, Reaching, Migrating, Block, Empty, Then}
 use Rattle.kt_play.specs.declared.form.token.Sign.TheVariants.{OpenBrace, CloseBrace}
 use Rattle.kt_play.specs.declared.form.token.Token.{Token}
-use Rattle.kt_play.specs.declared.form.token.Token.TheVariants.{Word, Number, Character, Mark}
+use Rattle.kt_play.specs.declared.form.token.Token.TheVariants.{Word, Mark}
 use Rattle.kt_play.specs.declared.form.head.Head.{Head}
 use Rattle.kt_play.specs.declared.form.head.Head.TheVariants as head
-use Rattle.kt_play.specs.Form.{parenthesised, statement_tokens, block_tokens, AreNamed, IsDeclaredExpr, IsDeclaredStatement, IsDeclared, statement_height, height}
-use Rattle.kt_play.specs.Reading.{◌>>=◌, matched, behind_last_brace, head_at, BlockReader, inner_at, rest_at, statement_at, block_at}
+use Rattle.kt_play.specs.Form.{parenthesised, statement_tokens, block_tokens, AreNamed, IsDeclaredStatement, IsDeclared, statement_height, height}
+use Rattle.kt_play.specs.Reading.{◌>>=◌, matched, behind_last_brace, head_at, BlockReader, rest_at, statement_at, block_at}
 use Rattle.kt_play.proofs.Points.{AreDistinct}
-use Rattle.kt_play.proofs.Terms.{Step, bind_some, behind_last_brace-is, head_tokens, IsDeclaredHead, HeadStands, head_at-is, head_at-again}
+use Rattle.kt_play.proofs.Terms.{bind_some, behind_last_brace-is, head_tokens, IsDeclaredHead, head_at-is, head_at-again}
 
 -- the block stands before a closing brace and the rest, with at most so many braces
 pub record BlockStands (globals : List Global) (points : List (List ℕ)) (braces : ℕ) (tokens : List Token) (x : Block × List Token) : Type 0 where

@@ -1,5 +1,5 @@
 -- Codes that do what the trees of the versions do.
-use Rattle.std.specs.Prelude.{◌≡◌, ℕ, List, Option, Some, slice_get}
+use Rattle.std.specs.Prelude.{◌≡◌, ℕ, List, Some, slice_get}
 use Rattle.kt_meaning.specs.Steps.{DoesSameActs}
 use Rattle.kt_meaning.specs.Thread.{entry, settle}
 use Rattle.kt_meaning.specs.Tree.{Version}

@@ -1,15 +1,14 @@
 -- The promises of `play`: each answer and its cause.
-use Rattle.std.specs.Prelude.{◌≡◌, ◌≢◌, ℕ, ◌⊎◌, ◌↔◌, List, Option, Some, None, IfSome, String}
-use Rattle.kt_edge.specs.Count.{Rose}
-use Rattle.kt_edge.specs.FileMap.{FileMap, Tells, Lacks}
-use Rattle.kt_edge.specs.Writes.{Writes, Takes, TakesOrFails}
+use Rattle.std.specs.Prelude.{◌≡◌, ℕ, ◌⊎◌, List, Option, None, String}
+use Rattle.kt_edge.specs.FileMap.{FileMap}
+use Rattle.kt_edge.specs.Writes.{Writes, Takes}
 use Rattle.kt_world.specs.declared.mark.End.{End}
 use Rattle.kt_play.specs.declared.status.Cause.{Cause}
 use Rattle.kt_play.specs.declared.status.Cause.TheVariants.{Later}
 use Rattle.kt_play.specs.declared.status.Which.{Which}
 use Rattle.kt_play.specs.declared.status.Which.TheVariants.{File}
 use Rattle.kt_play.specs.declared.status.Status.{Status}
-use Rattle.kt_play.specs.declared.status.Status.TheVariants.{Words, ReadFault, Refused, WriteFault, NoMemory}
+use Rattle.kt_play.specs.declared.status.Status.TheVariants.{NoMemory}
 use Rattle.kt_world.specs.Job.{Job}
 use Rattle.kt_world.specs.Turn.{IsComplete}
 use Rattle.std.specs.declared.alloc.Global.{Global}
@@ -18,7 +17,7 @@ use Rattle.kt_play.specs.declared.refusal.Refusal.{Refusal}
 use Rattle.kt_play.specs.declared.refusal.Refusal.TheVariants as refusal
 use Rattle.kt_play.specs.Outcome.{FailsToWrite, IsRefused}
 use Rattle.kt_play.specs.Run.{IsUnreadFile, IsRun, IsNamed, IsAccepted, IsOutsideForm, IsCause, IsOutcome}
-use Rattle.kt_play.specs.Status.{status_of, end_of, refusal_line}
+use Rattle.kt_play.specs.Status.{status_of}
 
 -- a run of the job that the words name: with the turns that its journal lists, it ends so, with this output
 pub record IsRunOfWords (words : List (List ℕ)) (told : Option FileMap) (how : End) (output journal : List ℕ) : Type 0 where

@@ -1,5 +1,5 @@
 -- The job of an order: the bytes of its files, what they are the text of, and the first file that is no such text.
-use Rattle.std.specs.Prelude.{◌≡◌, ℕ, List, [], ◌∷◌, length, ◌≤◌, ◌⊎◌, Option, Some, None, true}
+use Rattle.std.specs.Prelude.{◌≡◌, ℕ, List, [], ◌∷◌, length, ◌≤◌, ◌⊎◌, Option, true}
 use Rattle.std.specs.List.{list_all}
 use Rattle.kt_edge.specs.FileMap.{FileMap, Holds, Tells}
 use Rattle.kt_meaning.specs.Tree.{Version}

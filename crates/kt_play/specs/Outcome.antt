@@ -1,5 +1,5 @@
 -- What a call has done to its two sinks.
-use Rattle.std.specs.Prelude.{◌≡◌, ◌≢◌, ℕ, ◌⊎◌, List, Option, IfSome}
+use Rattle.std.specs.Prelude.{◌≡◌, ◌≢◌, ℕ, ◌⊎◌, List, IfSome}
 use Rattle.kt_play.specs.Status.{refusal_line}
 use Rattle.kt_edge.specs.Writes.{Writes, Takes, FailsIn, TakesOrFails}
 use Rattle.kt_world.specs.declared.mark.End.{End}

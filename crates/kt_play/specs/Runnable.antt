@@ -1,5 +1,5 @@
 -- What the machine asks of a job: one version or two, few requests, and some turns.
-use Rattle.std.specs.Prelude.{ℕ, ◌<◌, ◌≤◌, length}
+use Rattle.std.specs.Prelude.{◌<◌, ◌≤◌, length}
 use Rattle.kt_world.specs.declared.job.Job.{Job}
 
 pub record IsRunnable (job : Job) : Type 0 where

@@ -1,6 +1,6 @@
-use Rattle.std.proofs.Common.{◌≡◌, ◌+◌, ◌<◌, ◌≤◌, length, refl, sym, ap, ◌∙◌, arith, rules, ℕ, None, Some}
+use Rattle.std.proofs.Common.{sym}
 use Rattle.std.proofs.lemmas.Result.{err_from_is_err_and}
-use Rattle.kt_play.proofs.Blocks.{IsReadTo, is_read_to_more, is_read_whole, is_not_read, rest_at-If, rest_at-While}
+use Rattle.kt_play.proofs.Blocks.{is_read_to_more, is_read_whole, is_not_read, rest_at-If, rest_at-While}
 use Rattle.kt_play.proofs.form.block.+blocks.Goals as goal
 
 pub block-returns-in-Some-clause-read : goal.block-returns-in-Some-clause-read

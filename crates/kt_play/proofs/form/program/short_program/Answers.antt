@@ -1,5 +1,4 @@
 use Rattle.std.proofs.lemmas.Result.{err_from_is_err_and}
-use Rattle.std.proofs.Common.{sym}
 use Rattle.kt_play.proofs.Programs.{program_is_read, no_tokens_no_program}
 use Rattle.kt_play.proofs.form.program.short_program.Goals as goal
 

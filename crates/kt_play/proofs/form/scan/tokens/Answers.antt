@@ -1,8 +1,6 @@
-use Rattle.std.proofs.Common.{◌≡◌, ◌<◌, length, List, [], ◌∷◌, ◌++◌, refl, sym, ap, subst, ◌∙◌, arith, false-eqb}
+use Rattle.std.proofs.Common.{arith, false-eqb}
 use Rattle.std.proofs.lemmas.Result.{err_from_is_err_and}
-use Rattle.std.proofs.lemmas.List.{append-nil}
-use Rattle.kt_play.specs.Pieces.{HasTokens}
-use Rattle.kt_play.proofs.Scans.{IsScannedTo, HasTokens-none, is_scanned_to_start, is_scanned_to_more, read_is_shorter, is_not_scanned, is_scanned_whole}
+use Rattle.kt_play.proofs.Scans.{is_scanned_to_start, is_scanned_to_more, read_is_shorter, is_not_scanned, is_scanned_whole}
 use Rattle.kt_play.proofs.form.scan.tokens.Goals as goal
 
 pub loop-rest-init : goal.loop-rest-init
