@@ -38,7 +38,7 @@ counted-fits t p (Ptr q) n h = tt
 counted-fits t p (Struct s) n h = tt
 counted-fits t p (Array e k) n h =
     (some-of _ h.0 h.2, positive k h.4, subst (λ l. k * length l ≤ 65536) (sym (cells-is t e h.0 h.2)) (subst (λ m. m ≤ 65536) h.4 h.6))
-    where
-      positive : (k : ℕ) → n ≡ k * length h.0 → 1 ≤ k
-      positive zero z = absurd (omega (arith, z, zero-mul (length h.0), h.5))
-      positive (suc k) z = omega arith
+  where
+    positive : (k : ℕ) → n ≡ k * length h.0 → 1 ≤ k
+    positive zero z = absurd (omega (arith, z, zero-mul (length h.0), h.5))
+    positive (suc k) z = omega arith

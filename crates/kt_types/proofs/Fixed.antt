@@ -36,7 +36,7 @@ module _ (a : Inside) (t : Table) (view : table_of a ≡ t) (kept : KeepsTable a
   number-at : (s : ℕ) → s < length t.structs → (name : Vec ℕ) × (i : Option ℕ) × (Some (name, i) ≡ slice_get a.structs.entries s)
   number-at s lt =
       let same : length t.structs ≡ length a.structs.entries =
-          ap (λ (u : Table). length u.structs) (sym view) ∙ length-map (keys a.structs) (λ k. k.items) ∙ length-keys_of a.structs.entries in
+      ap (λ (u : Table). length u.structs) (sym view) ∙ length-map (keys a.structs) (λ k. k.items) ∙ length-keys_of a.structs.entries in
       entry-at a.structs.entries s (omega arith)
 
   kind-fixed : (p : ℕ) (ty : Ty) (n : ℕ) → slice_get t.types p ≡ Some ty → IsCounted t p ty n → layout t p ≡ type_cells (struct_layout t) (layout t) ty
@@ -52,11 +52,11 @@ module _ (a : Inside) (t : Table) (view : table_of a ≡ t) (kept : KeepsTable a
 
   pub is_fixed : (p : ℕ) → IsFixed t p
   is_fixed p = by (slice_get a.types.entries p) refl
-      where
-        by : (o : Option (Ty × ℕ)) → o ≡ slice_get a.types.entries p → IsFixed t p
-        by None e =
-            let nowhere = no-type a t view kept p e in
-            subst (λ o. MatchOption o (layout t p ≡ None) (λ ty. layout t p ≡ type_cells (struct_layout t) (layout t) ty)) (sym nowhere) (layout-nowhere t p nowhere)
-        by (Some c) e =
-            let found = type-at a t view kept p c.0 c.1 e in
-            subst (λ o. MatchOption o (layout t p ≡ None) (λ ty. layout t p ≡ type_cells (struct_layout t) (layout t) ty)) (sym found.0) (kind-fixed p c.0 c.1 found.0 found.1)
+    where
+      by : (o : Option (Ty × ℕ)) → o ≡ slice_get a.types.entries p → IsFixed t p
+      by None e =
+          let nowhere = no-type a t view kept p e in
+          subst (λ o. MatchOption o (layout t p ≡ None) (λ ty. layout t p ≡ type_cells (struct_layout t) (layout t) ty)) (sym nowhere) (layout-nowhere t p nowhere)
+      by (Some c) e =
+          let found = type-at a t view kept p c.0 c.1 e in
+          subst (λ o. MatchOption o (layout t p ≡ None) (λ ty. layout t p ≡ type_cells (struct_layout t) (layout t) ty)) (sym found.0) (kind-fixed p c.0 c.1 found.0 found.1)
