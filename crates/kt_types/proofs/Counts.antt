@@ -1,5 +1,5 @@
 -- The count that is kept with a type.
-use Rattle.std.proofs.Common.{◌≡◌, ℕ, zero, suc, ◌<◌, ◌≤◌, ◌+◌, ◌*◌, List, length, Option, Some, sym, ap, ◌∙◌, subst, arith}
+use Rattle.std.proofs.Common.{◌≡◌, ℕ, zero, suc, ◌<◌, ◌≤◌, ◌*◌, length, sym, ap, ◌∙◌, subst, arith}
 use Rattle.std.proofs.Math.Nat.{mul-le-mul, zero-mul}
 use Rattle.kt_types.proofs.Complete.{some-of, value-of}
 use Rattle.kt_types.proofs.Growth.{layout-grows-type}

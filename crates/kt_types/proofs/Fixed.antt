@@ -1,17 +1,16 @@
 -- The layout of a type is that of its kind, by the layouts of the types that it names.
-use Rattle.std.proofs.Common.{◌≡◌, ℕ, zero, suc, ◌<◌, ◌≤◌, List, [], ◌∷◌, length, map, Option, None, Some, refl, sym, ap, ◌∙◌, subst, arith, slice_get}
+use Rattle.std.proofs.Common.{◌≡◌, ℕ, zero, suc, ◌<◌, List, [], ◌∷◌, length, Option, None, Some, refl, sym, ap, ◌∙◌, subst, arith, slice_get}
 use Rattle.std.specs.Prelude.{MatchOption}
 use Rattle.std.specs.Global.{Vec}
 use Rattle.std.proofs.lemmas.List.{length-map}
 use Rattle.std.proofs.lemmas.Map.Entries.{length-keys_of}
-use Rattle.std.proofs.lemmas.Option.{slice_get_within, slice_get-get_or}
 use Rattle.indexmap.specs.IndexMap.{keys}
 use Rattle.kt_types.proofs.Complete.{layout-nowhere, struct-layout, struct-undefined}
 use Rattle.kt_types.proofs.Laws.{layout-alone}
 use Rattle.kt_types.proofs.Views.{type-at, no-type, struct-at, layout-at}
 use Rattle.kt_types.specs.Inside.{table_of, KeepsTable}
 use Rattle.kt_types.specs.Kept.{IsCounted, IsLaidOut, IsNumbered}
-use Rattle.kt_types.specs.Layout.{IsFixed, joined, layout, repeated, struct_layout, type_cells}
+use Rattle.kt_types.specs.Layout.{IsFixed, layout, struct_layout, type_cells}
 use Rattle.kt_types.specs.Table.{Table, fields_of}
 use Rattle.kt_types.specs.declared.kinds.Ty.{Ty}
 use Rattle.kt_types.specs.declared.kinds.Ty.TheVariants.{Char, Int, Long, Mutex, Struct, Array, Ptr}

@@ -1,5 +1,5 @@
 -- The fields so far have types of the table.
-use Rattle.std.proofs.Common.{◌≡◌, ◌<◌, ℕ, Some, length, slice_get}
+use Rattle.std.proofs.Common.{◌≡◌, ◌<◌, ℕ, Some, slice_get}
 use Rattle.kt_types.specs.declared.kinds.FieldDecl.{FieldDecl}
 use Rattle.kt_types.proofs.tests.fields.Given as goal
 
