@@ -33,7 +33,8 @@ fn place(table: &mut TypeTable, ty: Ty) -> Result<u32, Fail> {
     Ok(table.intern(ty)?)
 }
 
-// Fields of these names and types, places below `types`, with the plain view.
+// Fields of these names and types, places below `types`, with the plain view. Where a type is none, the answer is one
+// that no test wants.
 fn fields(alloc: Global, types: u32, fields: &[(&str, u32)]) -> Result<Vec<FieldDecl>, TypeFault>
     ensures { IfOk result (λ r. (n : ℕ) (f : FieldDecl) → slice_get r.items n ≡ Some f → f.ty < types) }
 {
@@ -100,10 +101,12 @@ fn turns_and_points_give_their_vectors_back(rt: HostRuntime) -> Result<(), Fail>
     let turns = Turns::from_vec(Vec::from_slice(rt.alloc(), &[0, 64])?);
     assert_eq!(rt; turns.as_slice(), [0, 64].as_slice());
     assert_eq!(rt; turns.into_vec().len(), 2);
-    let points = Points::from_vec(Vec::new(rt.alloc()), 0);
-    assert_eq!(rt; points.updates(), 0);
-    assert_eq!(rt; points.as_slice().len(), 0);
-    assert_eq!(rt; points.into_vec().len(), 0);
+    let mut names = Vec::new(rt.alloc());
+    names.push(Text::from_vec(Vec::from_slice(rt.alloc(), b"top")?))?;
+    let points = Points::from_vec(names, 1);
+    assert_eq!(rt; points.updates(), 1);
+    assert_eq!(rt; points.as_slice().len(), 1);
+    assert_eq!(rt; points.into_vec().len(), 1);
     Ok(())
 }
 
@@ -191,6 +194,8 @@ fn fields_are_found_by_name(rt: HostRuntime) -> Result<(), Fail> {
     assert_eq!(rt; table.field_at(1, b"lock"), Some(lock));
     assert_eq!(rt; table.field_at(1, b"key"), None);
     assert_eq!(rt; table.field_at(2, b"lock"), None);
+    assert!(rt; table.fields(1).is_some());
+    assert!(rt; table.fields(2).is_none());
     Ok(())
 }
 
