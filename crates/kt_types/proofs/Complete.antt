@@ -1,15 +1,14 @@
 -- Complete types: what is looked up is the layout.
-use Rattle.std.proofs.Common.{◌≡◌, ℕ, zero, suc, ◌<◌, ◌≤◌, ◌+◌, ◌-◌, ◌*◌, Bool, true, false, List, [], ◌∷◌, length, Option, None, Some, is_some, IsSome, refl, sym, ap, ◌∙◌, subst, arith, slice_get, get_or, ◌⊎◌, inl, inr}
-use Rattle.std.specs.Prelude.{unwrap_or, MatchOption}
+use Rattle.std.proofs.Common.{◌≡◌, ℕ, zero, suc, ◌≤◌, true, false, List, [], ◌∷◌, length, Option, None, Some, is_some, IsSome, refl, sym, ap, ◌∙◌, arith, slice_get}
+use Rattle.std.specs.Prelude.{MatchOption}
 use Rattle.std.specs.Borrow.{Bor}
-use Rattle.std.specs.Option.{option_map, option_and_then}
 use Rattle.std.proofs.lemmas.Bool.{false≢true}
-use Rattle.std.proofs.lemmas.Option.{none-some, same_Some, option_and_then_some, slice_get_within}
-use Rattle.kt_types.proofs.Cells.{joined-complete, joined-length, joined-at, before_more, before-le, length-repeated}
-use Rattle.kt_types.proofs.Growth.{option_map_some, struct_cells-defined}
+use Rattle.std.proofs.lemmas.Option.{none-some}
+use Rattle.kt_types.proofs.Cells.{joined-complete, length-repeated}
+use Rattle.kt_types.proofs.Growth.{struct_cells-defined}
 use Rattle.kt_types.proofs.Laws.{layout-alone}
 use Rattle.kt_types.specs.Kept.{IsCounted, IsLaidOut}
-use Rattle.kt_types.specs.Layout.{IsComplete, cells, cells_before, cell_limit, joined, layout, place_cells, repeated, struct_cells}
+use Rattle.kt_types.specs.Layout.{IsComplete, cell_limit, joined, layout, place_cells, repeated, struct_cells}
 use Rattle.kt_types.specs.Table.{Table, fields_of}
 use Rattle.kt_types.specs.declared.kinds.FieldDecl.{FieldDecl}
 use Rattle.kt_types.specs.declared.kinds.Ty.{Ty}

@@ -1,5 +1,5 @@
 -- The count that is kept with a type.
-use Rattle.std.proofs.Common.{◌≡◌, ℕ, zero, suc, ◌<◌, ◌≤◌, ◌+◌, ◌*◌, List, length, Option, Some, sym, ap, ◌∙◌, subst, arith}
+use Rattle.std.proofs.Common.{◌≡◌, ℕ, zero, suc, ◌<◌, ◌≤◌, ◌*◌, length, sym, ap, ◌∙◌, subst, arith}
 use Rattle.std.proofs.Math.Nat.{mul-le-mul, zero-mul}
 use Rattle.kt_types.proofs.Complete.{some-of, value-of}
 use Rattle.kt_types.proofs.Growth.{layout-grows-type}
@@ -38,7 +38,7 @@ counted-fits t p (Ptr q) n h = tt
 counted-fits t p (Struct s) n h = tt
 counted-fits t p (Array e k) n h =
     (some-of _ h.0 h.2, positive k h.4, subst (λ l. k * length l ≤ 65536) (sym (cells-is t e h.0 h.2)) (subst (λ m. m ≤ 65536) h.4 h.6))
-    where
-      positive : (k : ℕ) → n ≡ k * length h.0 → 1 ≤ k
-      positive zero z = absurd (omega (arith, z, zero-mul (length h.0), h.5))
-      positive (suc k) z = omega arith
+  where
+    positive : (k : ℕ) → n ≡ k * length h.0 → 1 ≤ k
+    positive zero z = absurd (omega (arith, z, zero-mul (length h.0), h.5))
+    positive (suc k) z = omega arith

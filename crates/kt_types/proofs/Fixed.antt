@@ -1,17 +1,16 @@
 -- The layout of a type is that of its kind, by the layouts of the types that it names.
-use Rattle.std.proofs.Common.{◌≡◌, ℕ, zero, suc, ◌<◌, ◌≤◌, List, [], ◌∷◌, length, map, Option, None, Some, refl, sym, ap, ◌∙◌, subst, arith, slice_get}
+use Rattle.std.proofs.Common.{◌≡◌, ℕ, zero, suc, ◌<◌, List, [], ◌∷◌, length, Option, None, Some, refl, sym, ap, ◌∙◌, subst, arith, slice_get}
 use Rattle.std.specs.Prelude.{MatchOption}
 use Rattle.std.specs.Global.{Vec}
 use Rattle.std.proofs.lemmas.List.{length-map}
 use Rattle.std.proofs.lemmas.Map.Entries.{length-keys_of}
-use Rattle.std.proofs.lemmas.Option.{slice_get_within, slice_get-get_or}
 use Rattle.indexmap.specs.IndexMap.{keys}
 use Rattle.kt_types.proofs.Complete.{layout-nowhere, struct-layout, struct-undefined}
 use Rattle.kt_types.proofs.Laws.{layout-alone}
 use Rattle.kt_types.proofs.Views.{type-at, no-type, struct-at, layout-at}
 use Rattle.kt_types.specs.Inside.{table_of, KeepsTable}
 use Rattle.kt_types.specs.Kept.{IsCounted, IsLaidOut, IsNumbered}
-use Rattle.kt_types.specs.Layout.{IsFixed, joined, layout, repeated, struct_layout, type_cells}
+use Rattle.kt_types.specs.Layout.{IsFixed, layout, struct_layout, type_cells}
 use Rattle.kt_types.specs.Table.{Table, fields_of}
 use Rattle.kt_types.specs.declared.kinds.Ty.{Ty}
 use Rattle.kt_types.specs.declared.kinds.Ty.TheVariants.{Char, Int, Long, Mutex, Struct, Array, Ptr}
@@ -36,7 +35,7 @@ module _ (a : Inside) (t : Table) (view : table_of a ≡ t) (kept : KeepsTable a
   number-at : (s : ℕ) → s < length t.structs → (name : Vec ℕ) × (i : Option ℕ) × (Some (name, i) ≡ slice_get a.structs.entries s)
   number-at s lt =
       let same : length t.structs ≡ length a.structs.entries =
-          ap (λ (u : Table). length u.structs) (sym view) ∙ length-map (keys a.structs) (λ k. k.items) ∙ length-keys_of a.structs.entries in
+      ap (λ (u : Table). length u.structs) (sym view) ∙ length-map (keys a.structs) (λ k. k.items) ∙ length-keys_of a.structs.entries in
       entry-at a.structs.entries s (omega arith)
 
   kind-fixed : (p : ℕ) (ty : Ty) (n : ℕ) → slice_get t.types p ≡ Some ty → IsCounted t p ty n → layout t p ≡ type_cells (struct_layout t) (layout t) ty
@@ -52,11 +51,11 @@ module _ (a : Inside) (t : Table) (view : table_of a ≡ t) (kept : KeepsTable a
 
   pub is_fixed : (p : ℕ) → IsFixed t p
   is_fixed p = by (slice_get a.types.entries p) refl
-      where
-        by : (o : Option (Ty × ℕ)) → o ≡ slice_get a.types.entries p → IsFixed t p
-        by None e =
-            let nowhere = no-type a t view kept p e in
-            subst (λ o. MatchOption o (layout t p ≡ None) (λ ty. layout t p ≡ type_cells (struct_layout t) (layout t) ty)) (sym nowhere) (layout-nowhere t p nowhere)
-        by (Some c) e =
-            let found = type-at a t view kept p c.0 c.1 e in
-            subst (λ o. MatchOption o (layout t p ≡ None) (λ ty. layout t p ≡ type_cells (struct_layout t) (layout t) ty)) (sym found.0) (kind-fixed p c.0 c.1 found.0 found.1)
+    where
+      by : (o : Option (Ty × ℕ)) → o ≡ slice_get a.types.entries p → IsFixed t p
+      by None e =
+          let nowhere = no-type a t view kept p e in
+          subst (λ o. MatchOption o (layout t p ≡ None) (λ ty. layout t p ≡ type_cells (struct_layout t) (layout t) ty)) (sym nowhere) (layout-nowhere t p nowhere)
+      by (Some c) e =
+          let found = type-at a t view kept p c.0 c.1 e in
+          subst (λ o. MatchOption o (layout t p ≡ None) (λ ty. layout t p ≡ type_cells (struct_layout t) (layout t) ty)) (sym found.0) (kind-fixed p c.0 c.1 found.0 found.1)

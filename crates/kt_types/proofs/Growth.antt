@@ -1,8 +1,8 @@
 -- A longer table gives the same cells: what is complete stays so, with the cells that it has.
-use Rattle.std.proofs.Common.{◌≡◌, ℕ, zero, suc, ◌<◌, ◌≤◌, ◌+◌, Bool, true, false, List, [], ◌∷◌, ◌++◌, length, length-append, if◌then◌else◌, ◌==◌, Option, None, Some, refl, sym, ap, ◌∙◌, subst, arith, slice_get, ◌⊎◌, inl, inr}
-use Rattle.std.specs.Option.{option_map, option_and_then}
+use Rattle.std.proofs.Common.{◌≡◌, ℕ, zero, suc, ◌≤◌, true, false, List, [], ◌∷◌, ◌++◌, length, length-append, if◌then◌else◌, ◌==◌, Option, None, Some, refl, sym, ap, subst, arith, slice_get, inl, inr}
+use Rattle.std.specs.Option.{option_map}
 use Rattle.std.proofs.lemmas.Bool.{eqb-true, cases_Bool}
-use Rattle.std.proofs.lemmas.Option.{option_and_then_some, none-some, slice_get_within}
+use Rattle.std.proofs.lemmas.Option.{option_and_then_some, none-some}
 use Rattle.kt_types.specs.Layout.{repeated, joined, type_cells, place_cells, struct_cells, layout}
 use Rattle.kt_types.specs.Table.{Table, Definition, fields_by, fields_of, with_type, with_struct, with_definition}
 use Rattle.kt_types.specs.declared.kinds.FieldDecl.{FieldDecl}

@@ -1,12 +1,12 @@
 -- What a table keeps, it keeps when it gets a type, a struct or a definition.
-use Rattle.std.proofs.Common.{◌≡◌, ◌≢◌, ℕ, zero, suc, ◌<◌, ◌≤◌, ◌+◌, ◌*◌, ◌^◌, List, [], ◌∷◌, ◌++◌, length, length-append, set, lit<, Option, None, Some, refl, sym, ap, ◌∙◌, subst, arith, slice_get, if◌then◌else◌, ◌==◌, ◌⊎◌, inl, inr}
-use Rattle.std.proofs.lemmas.Bool.{eqb-true, ne_eqb, cases_eq}
-use Rattle.std.proofs.lemmas.Option.{none-some, same_Some, slice_get_within}
+use Rattle.std.proofs.Common.{◌≡◌, ◌≢◌, ℕ, zero, suc, ◌<◌, ◌≤◌, ◌+◌, List, [], ◌∷◌, ◌++◌, length, length-append, set, lit<, Option, None, Some, refl, sym, ap, ◌∙◌, subst, arith, slice_get, ◌⊎◌, inl, inr}
+use Rattle.std.proofs.lemmas.Bool.{ne_eqb}
+use Rattle.std.proofs.lemmas.Option.{none-some, same_Some}
 use Rattle.kt_types.proofs.Cells.{before-grows}
 use Rattle.kt_types.proofs.Growth.{Grows, front-push, joined-grows, layout-grows-type, layout-grows-definition, struct-grows-types, struct-grows-defs}
-use Rattle.kt_types.specs.Kept.{IsCounted, IsDefinedOnce, IsKept, IsLaidOut, IsNumbered}
-use Rattle.kt_types.specs.Layout.{layout, joined, struct_cells, cells_before}
-use Rattle.kt_types.specs.Table.{Table, Definition, fields_of, scalar_table, with_type, with_struct, with_definition}
+use Rattle.kt_types.specs.Kept.{IsCounted, IsKept, IsLaidOut, IsNumbered}
+use Rattle.kt_types.specs.Layout.{layout, struct_cells}
+use Rattle.kt_types.specs.Table.{Table, fields_of, scalar_table, with_type, with_struct, with_definition}
 use Rattle.kt_types.specs.declared.kinds.FieldDecl.{FieldDecl}
 use Rattle.kt_types.specs.declared.kinds.Ty.{Ty}
 use Rattle.kt_types.specs.declared.kinds.Ty.TheVariants.{Char, Int, Long, Mutex, Struct, Array, Ptr}

@@ -1,12 +1,12 @@
 -- Keys that stand once each, by what they name.
-use Rattle.std.proofs.Common.{◌≡◌, ℕ, ◌<◌, Bool, true, false, List, [], ◌∷◌, length, get_or, Option, None, Some, is_some, refl, sym, ap, ◌∙◌, subst, arith, slice_get, ◌⊎◌, inl, inr}
-use Rattle.std.specs.List.{IsDistinct, list_any, position}
+use Rattle.std.proofs.Common.{◌≡◌, ℕ, Bool, true, false, List, [], ◌∷◌, get_or, Some, is_some, sym, ap, ◌∙◌, slice_get, inl, inr}
+use Rattle.std.specs.List.{IsDistinct, position}
 use Rattle.std.specs.Map.{keys_of, lookup}
 use Rattle.std.proofs.lemmas.Bool.{cases_order, false≢true}
 use Rattle.std.proofs.lemmas.List.Quantifiers.{position-Some}
 use Rattle.std.proofs.lemmas.Map.Keys.{any_passes_from_place, apart_from_distinct}
 use Rattle.std.proofs.lemmas.Map.Made.{is_some-lookup}
-use Rattle.std.proofs.lemmas.Option.{none-some, same_Some, slice_get_within, slice_get-get_or, get_or_from_slice_get}
+use Rattle.std.proofs.lemmas.Option.{none-some, slice_get_within, slice_get-get_or, get_or_from_slice_get}
 
 module _ {K A : Type 0} (name : K → A) (test : A → A → Bool) (same : (a b : A) → test a b ≡ true → a ≡ b) (tied : (a b : A) → a ≡ b → test a b ≡ true) where
   -- the place that a look-up finds has the name

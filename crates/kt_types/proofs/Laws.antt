@@ -1,16 +1,16 @@
 -- What the layout of a type is, by its kind.
-use Rattle.std.proofs.Common.{◌≡◌, ℕ, zero, suc, ◌<◌, ◌≤◌, ◌+◌, Bool, true, false, List, [], ◌∷◌, ◌++◌, length, length-append, if◌then◌else◌, ◌==◌, Option, None, Some, refl, sym, ap, ◌∙◌, subst, arith, slice_get, ◌⊎◌, inl, inr}
-use Rattle.std.specs.Option.{option_map, option_and_then}
-use Rattle.std.proofs.lemmas.Bool.{eqb-true, cases_Bool}
-use Rattle.std.proofs.lemmas.Option.{option_and_then_some, none-some, slice_get_within}
-use Rattle.kt_types.proofs.Growth.{Grows, IsFront, front-push, joined-grows, option_map_some, place-grows, struct-grows-types, struct-grows-defs, type-grows}
+use Rattle.std.proofs.Common.{◌≡◌, ℕ, zero, suc, ◌<◌, ◌≤◌, List, [], ◌∷◌, ◌++◌, length, length-append, ◌==◌, Option, Some, refl, subst, arith, slice_get, inl, inr}
+use Rattle.std.specs.Option.{option_and_then}
+use Rattle.std.proofs.lemmas.Bool.{cases_Bool}
+use Rattle.std.proofs.lemmas.Option.{none-some, slice_get_within}
+use Rattle.kt_types.proofs.Growth.{Grows, front-push, joined-grows, option_map_some, place-grows, struct-grows-types, struct-grows-defs, type-grows}
 use Rattle.kt_types.specs.Kept.{IsDefinedOnce}
 use Rattle.kt_types.specs.Layout.{repeated, joined, type_cells, place_cells, struct_cells, layout}
 use Rattle.kt_types.specs.Rank.{layout_by}
-use Rattle.kt_types.specs.Table.{Table, Definition, fields_by, fields_of, with_type}
+use Rattle.kt_types.specs.Table.{Table, Definition, fields_by, with_type}
 use Rattle.kt_types.specs.declared.kinds.FieldDecl.{FieldDecl}
 use Rattle.kt_types.specs.declared.kinds.Ty.{Ty}
-use Rattle.kt_types.specs.declared.kinds.Ty.TheVariants.{Char, Int, Long, Mutex, Struct, Array, Ptr}
+use Rattle.kt_types.specs.declared.kinds.Ty.TheVariants.{Array}
 
 -- a table's layouts are those by all its definitions
 pub layout-layout_by : (t : Table) (p : ℕ) → layout t p ≡ layout_by t.types t.defined p

@@ -1,15 +1,14 @@
 -- The look-up of a field by its name.
-use Rattle.std.proofs.Common.{◌≡◌, ℕ, suc, ◌<◌, ◌≤◌, ◌+◌, Bool, true, false, cond, not, List, [], ◌∷◌, length, map, Option, None, Some, refl, sym, ap, ◌∙◌, subst, arith, slice_get, ◌==◌}
+use Rattle.std.proofs.Common.{◌≡◌, ℕ, Bool, not, List, [], ◌∷◌, length, map, None, Some, refl, sym, ap, ◌∙◌, subst, slice_get, ◌==◌}
 use Rattle.std.specs.Cmp.Lexicographic.{pointwise}
 use Rattle.std.proofs.lemmas.List.{length-map}
 use Rattle.std.specs.Global.{Vec}
-use Rattle.std.specs.List.{position, position_or_len, prefix_len}
-use Rattle.std.specs.Option.{option_and_then, option_map}
-use Rattle.kt_types.specs.Kept.{AreNames, IsLaidOut}
+use Rattle.std.specs.List.{position, prefix_len}
+use Rattle.std.specs.Option.{option_and_then}
+use Rattle.kt_types.specs.Kept.{IsLaidOut}
 use Rattle.kt_types.specs.Layout.{cells_before, field_named}
 use Rattle.kt_types.specs.Table.{Table, fields_of}
 use Rattle.kt_types.specs.declared.kinds.FieldDecl.{FieldDecl}
-use Rattle.kt_types.specs.declared.kinds.Field.{Field}
 use Rattle.kt_types.specs.declared.table.StructLayout.{StructLayout}
 
 prefix_len-map : {X Y : Type 0} (f : X → Y) (q : Y → Bool) (xs : List X) → prefix_len (λ x. q (f x)) xs ≡ prefix_len q (map f xs)

@@ -1,16 +1,15 @@
 -- The part of a type that has a cell.
-use Rattle.std.proofs.Common.{◌≡◌, ℕ, zero, suc, ◌<◌, ◌≤◌, ◌+◌, ◌-◌, ◌*◌, ◌%◌, List, [], ◌∷◌, length, Option, None, Some, refl, sym, ap, ◌∙◌, subst, arith, slice_get, get_or, ◌⊎◌, inl, inr}
-use Rattle.std.specs.Prelude.{unwrap_or}
+use Rattle.std.proofs.Common.{◌≡◌, ℕ, zero, suc, ◌<◌, ◌≤◌, ◌+◌, ◌-◌, ◌*◌, ◌%◌, List, [], ◌∷◌, length, Some, refl, sym, ap, ◌∙◌, subst, arith, slice_get, get_or, inl, inr}
 use Rattle.std.specs.List.Sorted.{IsNonDecreasing}
 use Rattle.std.proofs.Math.Nat.{mod-lt, mul-zero}
 use Rattle.std.proofs.lemmas.Bool.{cases_lt}
-use Rattle.std.proofs.lemmas.Option.{slice_get_within, get_or_from_slice_get}
+use Rattle.std.proofs.lemmas.Option.{get_or_from_slice_get}
 use Rattle.kt_types.proofs.Cells.{joined-complete, joined-length, joined-at, before_more, before-le, length-repeated, slice_get-repeated}
 use Rattle.kt_types.proofs.Complete.{some-of, struct-layout}
 use Rattle.kt_types.proofs.Laws.{layout-layout_by}
 use Rattle.kt_types.proofs.Ranks.{rank-array, rank-field}
 use Rattle.kt_types.specs.Kept.{AreStarts, IsCounted, IsDefinedOnce, IsLaidOut, IsPart}
-use Rattle.kt_types.specs.Layout.{IsComplete, cells, cells_before, joined, layout, repeated}
+use Rattle.kt_types.specs.Layout.{cells, cells_before, layout, repeated}
 use Rattle.kt_types.specs.Table.{Table, fields_of}
 use Rattle.kt_types.specs.declared.kinds.FieldDecl.{FieldDecl}
 use Rattle.kt_types.specs.declared.kinds.Ty.{Ty}

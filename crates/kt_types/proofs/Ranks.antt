@@ -1,12 +1,12 @@
 -- How many definitions a complete type stands on at most, so that the walk to a cell ends.
-use Rattle.std.proofs.Common.{◌≡◌, ℕ, zero, suc, ◌<◌, ◌≤◌, ◌+◌, Bool, true, false, List, [], ◌∷◌, length, if◌then◌else◌, ◌==◌, Option, None, Some, is_some, refl, sym, ap, ◌∙◌, subst, arith, slice_get, ◌⊎◌, inl, inr}
+use Rattle.std.proofs.Common.{◌≡◌, ℕ, suc, ◌<◌, ◌≤◌, true, false, List, [], ◌∷◌, length, if◌then◌else◌, ◌==◌, Option, None, Some, is_some, refl, sym, ap, ◌∙◌, arith, slice_get, inl, inr}
 use Rattle.std.proofs.lemmas.Bool.{eqb-true, cases_Bool, false_from_ne_true}
 use Rattle.std.proofs.lemmas.Option.{none-some, same_Some, slice_get_within}
 use Rattle.kt_types.proofs.Cells.{joined-complete}
 use Rattle.kt_types.proofs.Growth.{option_map_some}
 use Rattle.kt_types.proofs.Laws.{place-cells, place-alone, struct-joined}
 use Rattle.kt_types.specs.Kept.{IsDefinedOnce}
-use Rattle.kt_types.specs.Layout.{repeated, joined, place_cells, struct_cells}
+use Rattle.kt_types.specs.Layout.{repeated, joined, struct_cells}
 use Rattle.kt_types.specs.Rank.{layout_by, rank}
 use Rattle.kt_types.specs.Table.{Definition, fields_by}
 use Rattle.kt_types.specs.declared.kinds.FieldDecl.{FieldDecl}

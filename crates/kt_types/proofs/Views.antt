@@ -1,11 +1,11 @@
 -- What the fields of a table say of the table that they stand for.
-use Rattle.std.proofs.Common.{◌≡◌, ℕ, ◌≤◌, length, List, Option, None, Some, refl, sym, ap, ◌∙◌, subst, slice_get}
+use Rattle.std.proofs.Common.{◌≡◌, ℕ, ◌≤◌, length, Option, None, Some, sym, ap, ◌∙◌, subst, slice_get}
 use Rattle.std.specs.Option.{option_map}
 use Rattle.std.specs.Global.{Vec}
 use Rattle.std.proofs.lemmas.Option.{slice_get-map}
 use Rattle.indexmap.specs.IndexMap.{keys, values}
 use Rattle.kt_types.specs.Inside.{table_of, KeepsTable}
-use Rattle.kt_types.specs.Kept.{IsCounted, IsDefinedOnce, IsKept, IsLaidOut, IsNumbered}
+use Rattle.kt_types.specs.Kept.{IsCounted, IsDefinedOnce, IsLaidOut, IsNumbered}
 use Rattle.kt_types.specs.Table.{Table, fields_of}
 use Rattle.kt_types.specs.declared.kinds.Ty.{Ty}
 use Rattle.kt_types.specs.declared.table.StructLayout.{StructLayout}

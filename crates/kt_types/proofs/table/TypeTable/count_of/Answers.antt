@@ -1,11 +1,9 @@
-use Rattle.std.proofs.Common.{◌≡◌, ℕ, ◌<◌, ◌≤◌, ◌*◌, length, List, Some, sym, ap, ◌∙◌, subst, slice_get, arith}
-use Rattle.std.proofs.Math.Nat.{mul-le-mul}
+use Rattle.std.proofs.Common.{◌*◌, length, sym, subst}
 use Rattle.kt_types.specs.declared.kinds.Ty.{Ty}
 use Rattle.kt_types.specs.declared.kinds.Ty.TheVariants.{Array}
 use Rattle.kt_types.specs.Kept.{IsCounted}
-use Rattle.kt_types.specs.Layout.{IsComplete, IsFitting, NamesPlaces, cells, layout}
-use Rattle.kt_types.specs.Table.{Table, with_type}
-use Rattle.kt_types.proofs.Complete.{value-of}
+use Rattle.kt_types.specs.Layout.{IsFitting, NamesPlaces}
+use Rattle.kt_types.specs.Table.{with_type}
 use Rattle.kt_types.proofs.Counts.{counted-array}
 use Rattle.kt_types.proofs.table.TypeTable.count_of.Goals as goal
 

@@ -1,11 +1,11 @@
-use Rattle.std.proofs.Common.{◌≡◌, ℕ, ◌<◌, ◌++◌, ◌∷◌, [], length, List, Option, None, Some, is_some, slice_get, sym, ap, ◌∙◌, subst, arith, refl, map, true, false, ◌==◌}
+use Rattle.std.proofs.Common.{◌≡◌, ℕ, ◌++◌, ◌∷◌, [], List, None, Some, slice_get, sym, ap, ◌∙◌, subst, arith, map, true, ◌==◌}
 use Rattle.std.specs.Cmp.Lexicographic.{pointwise, bytes_decides}
 use Rattle.std.specs.Global.{Vec}
-use Rattle.std.specs.Map.{keys_of, lookup}
+use Rattle.std.specs.Map.{lookup}
 use Rattle.std.proofs.lemmas.Option.{slice_get-map}
 use Rattle.indexmap.proofs.CallerLemmas.{insert_entry-new}
 use Rattle.indexmap.specs.IndexMap.{keys}
-use Rattle.kt_types.specs.Table.{Table, HasStruct}
+use Rattle.kt_types.specs.Table.{Table}
 use Rattle.kt_types.proofs.Added.{struct-table, struct-kept, struct-place, struct-only}
 use Rattle.kt_types.proofs.Complete.{is_none}
 use Rattle.kt_types.proofs.Growth.{option_map_some}

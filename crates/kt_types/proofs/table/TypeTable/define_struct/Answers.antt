@@ -1,13 +1,12 @@
-use Rattle.std.proofs.Common.{◌≡◌, ℕ, ◌<◌, ◌≤◌, ◌++◌, ◌∷◌, [], length, List, Option, None, Some, is_some, slice_get, sym, ap, ◌∙◌, subst, arith, refl, true, false}
+use Rattle.std.proofs.Common.{◌≡◌, ◌<◌, ◌≤◌, length, List, None, Some, is_some, sym, ap, ◌∙◌, subst, arith, true}
 use Rattle.std.proofs.lemmas.Bool.{MatchBool-at_true}
 use Rattle.std.proofs.lemmas.Option.{MatchOption-at_some, MatchOption-at_none}
 use Rattle.indexmap.specs.IndexMap.{set_value_at}
-use Rattle.kt_types.specs.declared.kinds.FieldDecl.{FieldDecl}
 use Rattle.kt_types.specs.declared.kinds.Ty.{Ty}
 use Rattle.kt_types.specs.declared.table.StructLayout.{StructLayout}
-use Rattle.kt_types.specs.Kept.{AreNames, AreStarts, IsLaidOut}
+use Rattle.kt_types.specs.Kept.{AreNames, AreStarts}
 use Rattle.kt_types.specs.Layout.{IsNew, cells_before, cell_limit, joined, layout}
-use Rattle.kt_types.specs.Table.{Table, HasDistinctNames, fields_of, with_definition}
+use Rattle.kt_types.specs.Table.{HasDistinctNames, fields_of}
 use Rattle.kt_types.proofs.Cells.{joined-length}
 use Rattle.kt_types.proofs.Complete.{value-of, is_none}
 use Rattle.kt_types.proofs.Defined.{new-laid, definition-table, definition-kept}

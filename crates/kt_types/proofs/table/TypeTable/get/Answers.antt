@@ -1,4 +1,3 @@
-use Rattle.std.proofs.Common.{◌≡◌, ℕ, Some, slice_get}
 use Rattle.std.proofs.lemmas.Option.{slice_get_within}
 use Rattle.kt_types.proofs.Counts.{counted-places, counted-fits}
 use Rattle.kt_types.proofs.Views.{type-at}

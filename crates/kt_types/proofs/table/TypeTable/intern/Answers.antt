@@ -1,7 +1,7 @@
-use Rattle.std.proofs.Common.{◌≡◌, ℕ, ◌<◌, ◌++◌, ◌∷◌, [], length, List, Option, None, Some, is_some, slice_get, sym, ap, ◌∙◌, subst, arith, refl}
+use Rattle.std.proofs.Common.{◌≡◌, ℕ, ◌++◌, ◌∷◌, [], Some, slice_get, sym, ap, ◌∙◌, refl}
 use Rattle.indexmap.proofs.CallerLemmas.{insert_entry-new}
 use Rattle.indexmap.specs.IndexMap.{keys}
-use Rattle.kt_types.specs.Table.{Table, HasType}
+use Rattle.kt_types.specs.Table.{Table}
 use Rattle.kt_types.specs.declared.kinds.Ty.{Ty}
 use Rattle.kt_types.specs.contracts.kinds.TyPartialEq.TheImpl.{eq-value}
 use Rattle.kt_types.proofs.Added.{type-table, type-kept, type-place, type-only}

@@ -1,14 +1,7 @@
-use Rattle.std.proofs.Common.{◌≡◌, ℕ, ◌<◌, ◌≤◌, ◌+◌, ◌-◌, ◌*◌, ◌%◌, List, [], ◌∷◌, length, Option, None, Some, is_some, IsSome, slice_get, sym, refl, ap, ◌∙◌, subst, get_or, arith, true, false, ◌⊎◌, inl, inr}
-use Rattle.std.specs.List.Sorted.{IsNonDecreasing}
+use Rattle.std.proofs.Common.{Some, is_some, sym, refl, ap, ◌∙◌}
 use Rattle.std.proofs.lemmas.Bool.{false≢true}
-use Rattle.std.proofs.lemmas.List.{get_or_read}
-use Rattle.std.proofs.lemmas.Option.{none-some, same_Some, slice_get_within, slice_get-get_or}
-use Rattle.kt_types.specs.declared.kinds.Ty.TheVariants.{Struct, Array}
-use Rattle.kt_types.specs.Kept.{IsCounted, IsLaidOut, IsPart}
-use Rattle.kt_types.specs.Layout.{IsComplete, IsFitting, NamesPlaces, cells, layout}
-use Rattle.kt_types.proofs.Views.{type-at, no-type, defined-once}
-use Rattle.kt_types.proofs.Parts.{cells-is, part-array, part-field, starts-sorted, starts-first}
-use Rattle.kt_types.proofs.Complete.{value-of, none-of, some-of, layout-nowhere, counted-cells, struct-layout, struct-undefined, struct-complete, no-struct, scalar-cells}
+use Rattle.kt_types.proofs.Views.{type-at, no-type}
+use Rattle.kt_types.proofs.Complete.{some-of, layout-nowhere, counted-cells, struct-complete, no-struct}
 use Rattle.kt_types.proofs.table.TypeTable.is_complete.Goals as goal
 
 pub returns-in-Struct : goal.returns-in-Struct

@@ -1,8 +1,6 @@
-use Rattle.std.proofs.Common.{◌≡◌, ℕ, ◌<◌, List, length, Option, None, Some, slice_get, sym, ap, ◌∙◌, subst, get_or, arith}
+use Rattle.std.proofs.Common.{◌≡◌, Some, sym, ap, ◌∙◌, subst, arith}
 use Rattle.std.proofs.lemmas.Option.{same_Some, slice_get_within, slice_get-get_or}
-use Rattle.std.proofs.lemmas.Bool.{cases_lt}
 use Rattle.kt_types.specs.Kept.{IsLaidOut, IsNumbered}
-use Rattle.kt_types.specs.declared.table.StructLayout.{StructLayout}
 use Rattle.kt_types.proofs.Views.{struct-at, layout-at}
 use Rattle.kt_types.proofs.table.TypeTable.layout_of.Goals as goal
 

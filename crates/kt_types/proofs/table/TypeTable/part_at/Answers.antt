@@ -1,14 +1,13 @@
-use Rattle.std.proofs.Common.{◌≡◌, ℕ, ◌<◌, ◌≤◌, ◌+◌, ◌-◌, ◌*◌, ◌%◌, List, [], ◌∷◌, length, Option, None, Some, is_some, IsSome, slice_get, sym, refl, ap, ◌∙◌, subst, get_or, arith, true, false, ◌⊎◌, inl, inr}
+use Rattle.std.proofs.Common.{◌≡◌, ◌<◌, ◌≤◌, ◌+◌, ◌-◌, ◌%◌, [], ◌∷◌, length, Some, is_some, slice_get, sym, ap, ◌∙◌, subst, get_or, arith}
 use Rattle.std.specs.List.Sorted.{IsNonDecreasing}
 use Rattle.std.proofs.lemmas.Bool.{false≢true}
 use Rattle.std.proofs.lemmas.List.{get_or_read}
-use Rattle.std.proofs.lemmas.Option.{none-some, same_Some, slice_get_within, slice_get-get_or}
-use Rattle.kt_types.specs.declared.kinds.Ty.TheVariants.{Struct, Array}
-use Rattle.kt_types.specs.Kept.{IsCounted, IsLaidOut, IsPart}
-use Rattle.kt_types.specs.Layout.{IsComplete, IsFitting, NamesPlaces, cells, layout}
+use Rattle.std.proofs.lemmas.Option.{slice_get-get_or}
+use Rattle.kt_types.specs.declared.kinds.Ty.TheVariants.{Array}
+use Rattle.kt_types.specs.Kept.{IsCounted, IsPart}
 use Rattle.kt_types.proofs.Views.{type-at, no-type, defined-once}
 use Rattle.kt_types.proofs.Parts.{cells-is, part-array, part-field, starts-sorted, starts-first}
-use Rattle.kt_types.proofs.Complete.{value-of, none-of, some-of, layout-nowhere, counted-cells, struct-layout, struct-undefined, struct-complete, no-struct, scalar-cells}
+use Rattle.kt_types.proofs.Complete.{some-of, layout-nowhere, struct-undefined, scalar-cells}
 use Rattle.kt_types.proofs.table.TypeTable.part_at.Goals as goal
 
 pub last_start-n-requires-clause-sorted : goal.last_start-n-requires-clause-sorted

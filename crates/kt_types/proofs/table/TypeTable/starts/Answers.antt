@@ -1,8 +1,8 @@
-use Rattle.std.proofs.Common.{◌≡◌, ℕ, ◌<◌, ◌≤◌, ◌+◌, length, Option, None, Some, slice_get, sym, ap, ◌∙◌, subst, arith, ◌⊎◌, inl, inr}
+use Rattle.std.proofs.Common.{◌≡◌, ◌≤◌, ◌+◌, length, Some, slice_get, sym, ap, ◌∙◌, arith, inl, inr}
 use Rattle.std.proofs.lemmas.Bool.{cases_eq}
 use Rattle.std.proofs.lemmas.List.{length_push}
-use Rattle.std.proofs.lemmas.Option.{slice_get_within, slice_get-get_or, slice_get-get_or}
-use Rattle.kt_types.specs.Layout.{IsComplete, layout, cells_before}
+use Rattle.std.proofs.lemmas.Option.{slice_get-get_or, slice_get-get_or}
+use Rattle.kt_types.specs.Layout.{layout, cells_before}
 use Rattle.kt_types.proofs.Cells.{joined-complete, before_more, before-le}
 use Rattle.kt_types.proofs.Complete.{value-of, some-of}
 use Rattle.kt_types.proofs.Keeps.{slice_get-at_push, slice_get-before_push}

@@ -1,4 +1,4 @@
-use Rattle.std.proofs.Common.{◌≡◌, Some, sym, ap, ◌∙◌}
+use Rattle.std.proofs.Common.{Some, sym, ap, ◌∙◌}
 use Rattle.kt_types.proofs.Views.{name-at, no-name}
 use Rattle.kt_types.proofs.table.TypeTable.struct_name.Goals as goal
 
