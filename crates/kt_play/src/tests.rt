@@ -308,7 +308,7 @@ fn a_refusal_keeps_its_answer_where_the_log_fails(rt: HostRuntime) -> Result<(),
 }
 
 // A run of a version, a blank rule file, and the next version.
-fn update(alloc: Global, old: &str, new: &str) -> Result<Played, AllocError> {
+fn update<'x>(alloc: Global, old: &'x str, new: &'x str) -> Result<Played, AllocError> {
     let texts = files(
         alloc,
         &[("old.c", old), ("rules", " \t\r\n"), ("new.c", new)],
