@@ -1,0 +1,59 @@
+-- What is read is what is spelled: the laws of reading expressions.
+use Rattle.std.specs.Prelude.{◌≡◌, ℕ, zero, suc, ◌+◌, ◌≤◌, true, List, [], ◌∷◌, ◌++◌, Ok, Some, None, Option, if◌then◌else◌, ◌||◌}
+use Rattle.std.specs.Option.{is_some}
+use Rattle.kt_grammar.specs.declared.operator.Dialect.{Dialect}
+use Rattle.kt_grammar.specs.declared.sign.Sign.{Sign}
+use Rattle.kt_grammar.specs.declared.sign.Sign.TheVariants as signs
+use Rattle.kt_grammar.specs.declared.symbol.Symbol.{Symbol}
+use Rattle.kt_grammar.specs.declared.symbol.Symbol.TheVariants as symbol
+use Rattle.kt_grammar.specs.declared.tree.Base.{Base}
+use Rattle.kt_grammar.specs.declared.tree.TypeName.{TypeName}
+use Rattle.kt_grammar.specs.Tree.{Term}
+use Rattle.kt_grammar.specs.Signs.{same_sign, precedence, assign_of, binary_of}
+use Rattle.kt_grammar.specs.Marks.{Mark, symbols_of, IsShallow}
+use Rattle.kt_grammar.specs.Spelling.{spells, spells_base, spells_type}
+use Rattle.kt_grammar.specs.Cursor.{Outcome, begins_sign}
+use Rattle.kt_grammar.specs.Reading.{begins_base, begins_expr, begins_postfix, base_at, expr_at}
+use Rattle.kt_grammar.specs.Cut.{cut}
+
+-- the level that an expression needs to be the left operand of a binary operator; 0 where the sign is none
+abbrev pub binary_needs : Sign → ℕ
+binary_needs s = elim (binary_of s) as (λ _. ℕ) [ None ↦ 0 | (Some op) ↦ precedence op ]
+
+-- the level that an expression needs to be an operand of the operator that stands behind it; 0 where none stands there
+unfoldable pub needs : Dialect → List Symbol → ℕ
+needs g (symbol.Sign at s ∷ rest) =
+    if begins_postfix g (symbol.Sign at s ∷ rest) then 9
+    else (if same_sign s signs.Question then 2
+    else (if is_some (assign_of g s) then 1
+    else binary_needs s))
+needs g _ = 0
+
+-- an expression that is spelled is read back, unless a token of it is too deep
+abbrev pub ExprIsReadBack : Type 0
+ExprIsReadBack =
+    (g : Dialect) (n d : ℕ) (x : Term) (marks : List Mark) (rest : List Symbol)
+    → spells g d x marks → needs g rest ≡ 0 → expr_at g n (symbols_of marks ++ rest) ≡ cut (d + n) marks rest (Ok (x, rest))
+
+-- the symbols are those of tokens that spell something, and then a rest
+pub record Stands (limit : ℕ) (language : List Mark → Type 0) (symbols rest : List Symbol) : Type 0 where
+  pub marks : List Mark
+  pub parts : symbols ≡ symbols_of marks ++ rest
+  pub spelled : language marks
+  pub shallow : IsShallow limit marks
+
+-- an expression that is read stands there, no token of it too deep
+abbrev pub ExprStands : Type 0
+ExprStands =
+    (g : Dialect) (n d : ℕ) (symbols : List Symbol) (x : Term) (rest : List Symbol)
+    → expr_at g n symbols ≡ Ok (x, rest) → Stands (d + n) (spells g d x) symbols rest
+
+-- what is spelled begins with a token at its depth that begins an expression
+pub record Begins (begins : List Symbol → Type 0) (d : ℕ) (marks : List Mark) : Type 0 where
+  pub first : Symbol
+  pub others : List Mark
+  pub is : marks ≡ record { symbol = first; depth = d } ∷ others
+  pub begins_so : (rest : List Symbol) → begins (first ∷ rest)
+
+abbrev pub ExprBegins : Type 0
+ExprBegins = (g : Dialect) (d : ℕ) (x : Term) (marks : List Mark) → spells g d x marks → Begins (λ symbols. begins_expr g symbols ≡ true) d marks

@@ -1,0 +1,9 @@
+pub mod Identifiers
+pub mod Tree
+pub mod Signs
+pub mod Marks
+pub mod Spelling
+pub mod Cursor
+pub mod Reading
+pub mod Cut
+pub mod Laws

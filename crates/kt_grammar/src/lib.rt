@@ -1,0 +1,18 @@
+//! What C files and rule files share: symbols, expressions, and reading them from the left.
+#![tactic(auto)]
+
+mod fault;
+mod keyword;
+mod operator;
+mod sign;
+mod symbol;
+mod tree;
+mod word;
+
+pub use fault::Fault;
+pub use keyword::{Keyword, RuleWord};
+pub use operator::{AssignOperator, BinaryOperator, Dialect, PrefixOperator, StepOperator};
+pub use sign::Sign;
+pub use symbol::Symbol;
+pub use tree::{Base, Expr, Name, TypeName};
+pub use word::Word;

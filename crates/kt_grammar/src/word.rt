@@ -1,0 +1,35 @@
+ghost use Rattle.std.specs.Prelude.{◌≡◌, true, false, IfSome, IfOk, MatchOption};
+ghost use Rattle.kt_grammar.specs.Identifiers.{is_identifier};
+
+use sqlite_items::Items;
+use std::alloc::{AllocError, Global};
+use std::marker::Model;
+
+/// An identifier: a letter or underscore, then letters, digits and underscores, and no keyword (ISO/IEC 9899:2011, 6.4.2).
+#[derive(Debug, Drop)]
+pub struct Word {
+    bytes: Items<u8>,
+}
+
+impl Model for Word {
+    ghost use Rattle.std.specs.Prelude.{◌≡◌, ℕ, true, List};
+    ghost use Rattle.std.specs.Coded.{coded_list, coded_ℕ};
+    ghost use Rattle.kt_grammar.specs.Identifiers.{is_identifier};
+
+    ghost Value = { List ℕ };
+
+    ghost coded = { coded_list coded_ℕ };
+
+    ghost view = { λ w. w.bytes };
+
+    ghost invariant = { λ w. is_identifier w.bytes ≡ true };
+}
+
+impl Word {
+    /// Its bytes.
+    pub fn as_bytes(&self) -> &[u8]
+        ensures { result.now ≡ self.now }
+    {
+        self.bytes.as_slice()
+    }
+}
