@@ -59,3 +59,10 @@ listed_at item zero done symbols = unexpected symbols
 listed_at item (suc limit) done symbols = item symbols >>= λ x.
     if begins_sign signs.Comma x.1 then listed_at item limit (done ++ x.0 ∷ []) (drop 1 x.1)
     else Ok (done ++ x.0 ∷ [], x.1)
+
+-- Items up to where they stop, behind those that are read; limit: no less than there are symbols.
+abbrev pub until_at : {A : Type 0} → (List Symbol → Bool) → (List Symbol → Outcome A) → ℕ → List A → List Symbol → Outcome (List A)
+until_at stops item zero done symbols = if stops symbols then Ok (done, symbols) else unexpected symbols
+until_at stops item (suc limit) done symbols =
+    if stops symbols then Ok (done, symbols)
+    else (item symbols >>= λ x. until_at stops item limit (done ++ x.0 ∷ []) x.1)

@@ -35,7 +35,7 @@ links _ = 0
 abbrev pub links_at : ℕ → Term → ℕ
 links_at l a = if level a == l then links a else 0
 
--- what stands at the depth of the whole, in parentheses, and one deeper inside
+-- in parentheses, which stand at this depth
 abbrev pub between : ℕ → Language → Language
 between d A = sign d signs.OpenParenthesis · A · sign d signs.CloseParenthesis
 
