@@ -9,7 +9,7 @@ use sqlite_items::{Boxed, Items};
 pub struct Stars {
     pub at: u32,
     /// At least 1.
-    pub count: u32,
+    pub count: usize,
 }
 
 /// What stands between the parentheses of `E_PTRARRAY`.
