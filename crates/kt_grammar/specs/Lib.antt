@@ -7,3 +7,4 @@ pub mod Cursor
 pub mod Reading
 pub mod Cut
 pub mod Laws
+pub mod CutLaws
