@@ -16,11 +16,11 @@ use Rattle.kt_grammar.specs.declared.tree.TypeName.{TypeName}
 use Rattle.kt_grammar.specs.Signs.{sign_number, same_sign}
 use Rattle.kt_grammar.specs.Marks.{Mark, Joined, symbols_of, IsShallow, token, sign, keyword, name, nothing, repeated}
 use Rattle.kt_grammar.specs.Spelling.{bare_base, spells_base, spells_type}
-use Rattle.kt_grammar.specs.Cursor.{◌>>=◌, Outcome, begins_sign, behind, name_at, count_sign}
+use Rattle.kt_grammar.specs.Cursor.{◌>>=◌, Outcome, begins_sign, behind, name_at, count_sign, listed_at}
 use Rattle.kt_grammar.specs.Reading.{begins_base, behind_const, bare_base_at, base_at, type_at}
 use Rattle.kt_grammar.specs.Laws.{Begins}
 use Rattle.kt_grammar.specs.Cut.{cut}
-use Rattle.kt_grammar.specs.CutLaws.{symbols_of-joined, cut-kept, cut-shallow, cut-token, shallow-append, begins-append, begins-token}
+use Rattle.kt_grammar.specs.CutLaws.{symbols_of-joined, cut-kept, cut-shallow, cut-first, cut-token, cut-then, cut-end, shallow-append, begins-append, begins-token}
 
 -- ---- signs and names
 
@@ -206,3 +206,29 @@ type-shallow limit d t marks is low =
 -- a type name begins with a token that begins a base
 pub type-begins : (d : ℕ) (t : TypeName) (marks : List Mark) → spells_type d t marks → Begins (λ symbols. begins_base symbols ≡ true) d marks
 type-begins d t marks is = begins-append (λ symbols. begins_base symbols ≡ true) d marks is.front is.back is.parts (base-begins d t.base is.front is.first)
+
+-- a type name that is spelled is read, and no token of it is cut
+pub type-cut : (limit d : ℕ) (t : TypeName) (marks : List Mark) (rest : List Symbol) → spells_type d t marks → begins_sign signs.Star rest ≡ false → d ≤ limit → type_at (symbols_of marks ++ rest) ≡ cut limit marks rest (Ok (t, rest))
+type-cut limit d t marks rest is h low = type-back d t marks rest is h ∙ sym (cut-shallow limit marks rest (Ok (t, rest)) (type-shallow limit d t marks is low))
+
+-- ---- lists
+
+-- the last item of a list, where no comma follows
+pub listed-last : {A : Type 0} (item : List Symbol → Outcome A) (n : ℕ) (done : List A) (limit : ℕ) (marks : List Mark) (rest : List Symbol) (a : A) → begins_sign signs.Comma rest ≡ false
+    → item (symbols_of marks ++ rest) ≡ cut limit marks rest (Ok (a, rest))
+    → listed_at item (suc n) done (symbols_of marks ++ rest) ≡ cut limit marks rest (Ok (done ++ a ∷ [], rest))
+listed-last item n done limit marks rest a h read =
+    cut-end item (λ x. if begins_sign signs.Comma x.1 then listed_at item n (done ++ x.0 ∷ []) (drop 1 x.1) else Ok (done ++ x.0 ∷ [], x.1)) limit marks rest (a, rest) (Ok (done ++ a ∷ [], rest)) read
+    (ap (λ b. if b then listed_at item n (done ++ a ∷ []) (drop 1 rest) else Ok (done ++ a ∷ [], rest)) h)
+
+-- an item of a list, a comma, and more
+pub listed-more : {A : Type 0} (item : List Symbol → Outcome A) (n : ℕ) (done : List A) (limit d : ℕ) (marks front comma back : List Mark) (rest : List Symbol) (a : A) (answer : Outcome (List A))
+    → marks ≡ front ++ (comma ++ back) → sign d signs.Comma comma → d ≤ limit
+    → item (symbols_of front ++ (symbols_of (comma ++ back) ++ rest)) ≡ cut limit front (symbols_of (comma ++ back) ++ rest) (Ok (a, symbols_of (comma ++ back) ++ rest))
+    → listed_at item n (done ++ a ∷ []) (symbols_of back ++ rest) ≡ cut limit back rest answer
+    → listed_at item (suc n) done (symbols_of marks ++ rest) ≡ cut limit marks rest answer
+listed-more item n done limit d marks front comma back rest a answer parts is low read more =
+    cut-then item (λ x. if begins_sign signs.Comma x.1 then listed_at item n (done ++ x.0 ∷ []) (drop 1 x.1) else Ok (done ++ x.0 ∷ [], x.1)) limit marks front (comma ++ back) rest
+    (a, symbols_of (comma ++ back) ++ rest) answer parts read
+    (cut-first (λ s. if begins_sign signs.Comma s then listed_at item n (done ++ a ∷ []) (drop 1 s) else Ok (done ++ a ∷ [], s)) limit d (symbol.Sign is.0 signs.Comma) (comma ++ back) comma back rest answer refl is.1 low
+        (ap (λ b. if b then listed_at item n (done ++ a ∷ []) (symbols_of back ++ rest) else Ok (done ++ a ∷ [], symbol.Sign is.0 signs.Comma ∷ (symbols_of back ++ rest))) (begins_sign-self is.0 signs.Comma (symbols_of back ++ rest)) ∙ more))
