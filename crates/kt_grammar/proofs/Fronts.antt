@@ -125,7 +125,7 @@ not_question : (g : Dialect) (at : ℕ) (s : Sign) (rest : List Symbol) → need
 unfolding needs
 not_question g at s rest h = taken (same_sign s signs.Question) 2 _ 1 (left (begins_postfix g (symbol.Sign at s ∷ rest)) 9 _ 1 h (omega arith)) (omega arith)
 
-nothing_there : {A : Type 0} (o : Option A) → is_some o ≡ false → o ≡ None
+pub nothing_there : {A : Type 0} (o : Option A) → is_some o ≡ false → o ≡ None
 nothing_there None h = refl
 nothing_there (Some x) h = absurd cc
 
