@@ -254,7 +254,7 @@ needs_7 g _ h = omega arith
 -- ---- what begins an expression
 
 -- what begins an expression begins no type
-pub no_base : (g : Dialect) (s : Symbol) (rest : List Symbol) → begins_expr g (s ∷ rest) ≡ true → begins_base (s ∷ rest) ≡ false
+no_base : (g : Dialect) (s : Symbol) (rest : List Symbol) → begins_expr g (s ∷ rest) ≡ true → begins_base (s ∷ rest) ≡ false
 unfolding begins_expr begins_base
 no_base g (symbol.Keyword at keywords.Const) rest h = absurd cc
 no_base g (symbol.Keyword at keywords.Char) rest h = absurd cc
@@ -265,8 +265,30 @@ no_base g (symbol.Keyword at keywords.Struct) rest h = absurd cc
 no_base g _ rest h = refl
 
 -- what begins an expression is no closing parenthesis
-pub no_close : (g : Dialect) (s : Symbol) (rest : List Symbol) → begins_expr g (s ∷ rest) ≡ true → begins_sign signs.CloseParenthesis (s ∷ rest) ≡ false
+no_close : (g : Dialect) (s : Symbol) (rest : List Symbol) → begins_expr g (s ∷ rest) ≡ true → begins_sign signs.CloseParenthesis (s ∷ rest) ≡ false
 unfolding begins_expr begins_sign prefix_of
 no_close g (symbol.Sign at signs.CloseParenthesis) rest h = absurd cc
 no_close g (symbol.Sign at _) rest h = refl
 no_close g _ rest h = refl
+
+pub nothing_of_base : (g : Dialect) (symbols : List Symbol) → begins_expr g symbols ≡ true → begins_base symbols ≡ false
+unfolding begins_base
+nothing_of_base g [] h = refl
+nothing_of_base g (s ∷ rest) h = no_base g s rest h
+
+pub nothing_closed : (g : Dialect) (symbols : List Symbol) → begins_expr g symbols ≡ true → begins_sign signs.CloseParenthesis symbols ≡ false
+unfolding begins_sign
+nothing_closed g [] h = refl
+nothing_closed g (s ∷ rest) h = no_close g s rest h
+
+needs_any : (b : Bool) (m : ℕ) → m ≤ 9 → (if b then 9 else m) ≤ 9
+needs_any true m h = omega arith
+needs_any false m h = h
+
+-- no operator needs more than level 9
+pub needs_9 : (g : Dialect) (symbols : List Symbol) → needs g symbols ≤ 9
+unfolding needs
+needs_9 g (symbol.Sign at s ∷ rest) =
+    let f = few (same_sign s signs.Question) 2 _ (omega arith) (few (is_some (assign_of g s)) 1 _ (omega arith) (binary_few (binary_of s))) in
+    needs_any (begins_postfix g (symbol.Sign at s ∷ rest)) _ (omega arith)
+needs_9 g _ = omega arith

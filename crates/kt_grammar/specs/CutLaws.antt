@@ -29,7 +29,8 @@ pub symbols_of-joined : (marks front back : List Mark) (rest : List Symbol) → 
 symbols_of-joined marks front back rest e =
     ap (λ m. symbols_of m ++ rest) e ∙ ap (λ l. l ++ rest) (symbols_of-append front back) ∙ append_assoc (symbols_of front) (symbols_of back) rest
 
-left_length : (marks : List Mark) (rest : List Symbol) → length (symbols_of marks ++ rest) ≡ length marks + length rest
+-- how many symbols stand there
+pub left_length : (marks : List Mark) (rest : List Symbol) → length (symbols_of marks ++ rest) ≡ length marks + length rest
 left_length marks rest = length-append (symbols_of marks) rest ∙ ap (λ n. n + length rest) (symbols_of-length marks)
 
 -- ---- choices

@@ -1,0 +1,104 @@
+-- An expression that is spelled is read back.
+use Rattle.std.specs.Prelude.{◌≡◌, ℕ, zero, suc, ◌+◌, ◌-◌, ◌<◌, ◌≤◌, ◌==◌, ◌&&◌, not, Bool, true, false, List, [], ◌∷◌, ◌++◌, length, drop, Option, Some, None, Result, Ok, Err, if◌then◌else◌}
+use Rattle.std.proofs.Common.{refl, sym, ap, subst, ◌∙◌, arith, inl, inr, ◌⊎◌, append_assoc}
+use Rattle.std.proofs.lemmas.List.{length-append}
+use Rattle.std.proofs.lemmas.Bool.Decides.{eqb_tells}
+use Rattle.kt_lex.specs.declared.number.Number.{Number}
+use Rattle.kt_grammar.specs.declared.fault.Fault.{Fault}
+use Rattle.kt_grammar.specs.declared.keyword.Keyword.{Keyword}
+use Rattle.kt_grammar.specs.declared.keyword.Keyword.TheVariants as keywords
+use Rattle.kt_grammar.specs.declared.keyword.RuleWord.{RuleWord}
+use Rattle.kt_grammar.specs.declared.keyword.RuleWord.TheVariants as rule
+use Rattle.kt_grammar.specs.declared.sign.Sign.{Sign}
+use Rattle.kt_grammar.specs.declared.sign.Sign.TheVariants as signs
+use Rattle.kt_grammar.specs.declared.symbol.Symbol.{Symbol}
+use Rattle.kt_grammar.specs.declared.symbol.Symbol.TheVariants as symbol
+use Rattle.kt_grammar.specs.declared.operator.Dialect.{Dialect}
+use Rattle.kt_grammar.specs.declared.operator.Dialect.TheVariants.{C, Rules}
+use Rattle.kt_grammar.specs.declared.operator.PrefixOperator.{PrefixOperator}
+use Rattle.kt_grammar.specs.declared.operator.StepOperator.{StepOperator}
+use Rattle.kt_grammar.specs.declared.operator.StepOperator.TheVariants as step
+use Rattle.kt_grammar.specs.declared.operator.BinaryOperator.{BinaryOperator}
+use Rattle.kt_grammar.specs.declared.operator.AssignOperator.{AssignOperator}
+use Rattle.kt_grammar.specs.declared.tree.Name.{Name}
+use Rattle.kt_grammar.specs.declared.tree.TypeName.{TypeName}
+use Rattle.kt_grammar.specs.Tree.{Term, Terms, Nothing, More, Constant, Character, Text, Null, Eof, Named, Called, Parenthesised, SizeOf, RuleValue, OldSymbol, Transformed, Element, Member, Pointed, Stepped, Prefixed, Converted, Operated, Chosen, Assigned, terms_of}
+use Rattle.kt_grammar.specs.Signs.{is_c, same_sign, precedence, prefix_sign, has_prefix, prefix_of, step_sign, step_of, binary_sign, assign_sign, assign_of}
+use Rattle.kt_grammar.specs.Marks.{Mark, Language, Joined, symbols_of, token, sign}
+use Rattle.kt_grammar.specs.Spelling.{level, links, links_at, is_value, spells, arguments}
+use Rattle.kt_grammar.specs.Cursor.{◌>>=◌, Outcome, begins_sign, behind, name_at, listed_at}
+use Rattle.kt_grammar.specs.Reading.{Readers, begins_base, begins_expr, begins_postfix, type_at, between_at, deep, deep_level, more_at, index_at, stepped_at, postfix_at, arguments_at, named_at, old_symbol_at, transform_at, rule_at, primary_at, parenthesis_at, prefixed_at, unary_at, assign_here, chain_at, choice_at, assignment_at, tail_at, climb_at, level_at, deeper, expr_at}
+use Rattle.kt_grammar.specs.Laws.{Begins, needs, ExprIsReadBack}
+use Rattle.kt_grammar.specs.Cut.{cut}
+use Rattle.kt_grammar.specs.CutLaws.{cut-bind, cut-joined, cut-first, cut-token, cut-then, cut-end, cut-none, begins-append, begins-weaker, begins-at, left_length}
+use Rattle.kt_grammar.specs.BackLaws.{sign-back, name-back, type-cut, type-begins, listed-last, listed-more}
+use Rattle.kt_grammar.proofs.Beginnings.{expr_begins}
+use Rattle.kt_grammar.proofs.Fronts.{Quiet, quiet, question-quiet, stop, stop-le, stop-mono, needs_7, needs_9, no_postfix, nothing_of_base, nothing_closed, needs-binary, needs-assign, needs-question, needs-colon, needs-comma, needs-close, needs-bracket, prefix_of-sign, prefix_sign-closed, assign_of-sign, precedence-bounds, binary_here-low, binary_here-high}
+use Rattle.kt_grammar.proofs.Resuming.{after_postfix, after_postfix-step, after_chain, after_chain-none, after_chain-step, operand_at, climbing, resume, resume-postfix, resume-chain, resume-quiet}
+
+-- a token at its depth
+abbrev at_depth : ℕ → Symbol → Mark
+at_depth d s = record { symbol = s; depth = d }
+
+-- what is spelled is read back, whatever stands behind it that doesn't need more
+abbrev pub IsBack : Term → Type 0
+IsBack x =
+    (g : Dialect) (n d limit least : ℕ) (marks : List Mark) (rest : List Symbol) → d + n ≡ limit → spells g d x marks → least ≤ 8 → least ≤ level x → needs g rest ≤ level x
+    → level_at g (deeper g n) least (symbols_of marks ++ rest) ≡ cut limit marks rest (resume g n least (level x) (links x) x rest)
+
+-- ---- operands
+
+-- where nothing goes on behind it, that is all
+whole_back : (x : Term) → IsBack x → (g : Dialect) (n d limit least : ℕ) (marks : List Mark) (rest : List Symbol) → d + n ≡ limit → spells g d x marks → least ≤ 8 → least ≤ level x → needs g rest ≤ stop least
+    → level_at g (deeper g n) least (symbols_of marks ++ rest) ≡ cut limit marks rest (Ok (x, rest))
+unfolding climb_at
+whole_back x back g n d limit least marks rest e is low high need =
+    let s : stop least ≤ least = stop-le least in
+    back g n d limit least marks rest e is low high (omega arith)
+    ∙ ap (cut limit marks rest) (resume-quiet g n least 0 (level x) (links x) x rest (omega arith) (omega arith) (λ i a b. quiet g i rest (let t : stop least ≤ stop i = stop-mono least i (omega arith) in omega arith)) (no_postfix g rest (omega arith)))
+
+-- the same one deeper
+deep_back : (x : Term) → IsBack x → (g : Dialect) (n d limit least : ℕ) (marks : List Mark) (rest : List Symbol) → d + n ≡ limit → spells g (suc d) x marks → least ≤ 8 → least ≤ level x → needs g rest ≤ stop least
+    → deep_level g (deeper g n) least (symbols_of marks ++ rest) ≡ cut limit marks rest (Ok (x, rest))
+unfolding deeper
+deep_back x back g zero d limit least marks rest e is low high need = cut-none (begins_expr g) limit (suc d) marks rest (Ok (x, rest)) (omega arith) (expr_begins g (suc d) x marks is)
+deep_back x back g (suc n) d limit least marks rest e is low high need = whole_back x back g n (suc d) limit least marks rest (omega arith) is low high need
+
+-- ---- unary expressions
+
+level_from : (g : Dialect) (n limit least : ℕ) (marks : List Mark) (rest : List Symbol) (answer : Outcome Term) → unary_at g (deeper g n) (symbols_of marks ++ rest) ≡ cut limit marks rest answer
+    → level_at g (deeper g n) least (symbols_of marks ++ rest) ≡ cut limit marks rest (climbing g n least (8 - least) answer)
+unfolding level_at
+level_from g n limit least marks rest answer h = ap (climbing g n least (8 - least)) h ∙ cut-bind limit marks rest answer (λ y. climb_at g (deeper g n) least (8 - least) y.0 y.1)
+
+from_postfix : (x : Term) (g : Dialect) (n limit least : ℕ) (marks : List Mark) (rest : List Symbol) → 9 ≤ level x
+    → unary_at g (deeper g n) (symbols_of marks ++ rest) ≡ cut limit marks rest (after_postfix g n (links x) x rest)
+    → level_at g (deeper g n) least (symbols_of marks ++ rest) ≡ cut limit marks rest (resume g n least (level x) (links x) x rest)
+from_postfix x g n limit least marks rest high h =
+    level_from g n limit least marks rest (after_postfix g n (links x) x rest) h ∙ ap (cut limit marks rest) (sym (resume-postfix g n least (level x) (links x) x rest high))
+
+from_unary : (x : Term) (g : Dialect) (n limit least : ℕ) (marks : List Mark) (rest : List Symbol) → unary_at g (deeper g n) (symbols_of marks ++ rest) ≡ cut limit marks rest (Ok (x, rest))
+    → level_at g (deeper g n) least (symbols_of marks ++ rest) ≡ cut limit marks rest (resume g n least 8 0 x rest)
+from_unary x g n limit least marks rest h =
+    level_from g n limit least marks rest (Ok (x, rest)) h
+    ∙ ap (λ a. cut limit marks rest (climbing g n least (8 - least) a)) (sym (after_chain-none g n 0 8 x rest (binary_here-high 8 rest (omega arith))))
+
+bind_pair : (read : Outcome Term) → (read >>= λ x. Ok (x.0, x.1)) ≡ read
+bind_pair (Ok x) = refl
+bind_pair (Err e) = refl
+
+level_8 : (g : Dialect) (r : Option Readers) (symbols : List Symbol) → level_at g r 8 symbols ≡ unary_at g r symbols
+unfolding level_at climb_at
+level_8 g r symbols = bind_pair (unary_at g r symbols)
+
+climb_8 : (g : Dialect) (n : ℕ) (read : Outcome Term) → climbing g n 8 (8 - 8) read ≡ read
+unfolding climb_at
+climb_8 g n read = bind_pair read
+
+-- an expression of the highest level, and more postfix operators
+postfix_back : (x : Term) → IsBack x → (g : Dialect) (n d limit : ℕ) (marks : List Mark) (rest : List Symbol) → d + n ≡ limit → spells g d x marks → 9 ≤ level x
+    → unary_at g (deeper g n) (symbols_of marks ++ rest) ≡ cut limit marks rest (after_postfix g n (links x) x rest)
+postfix_back x back g n d limit marks rest e is high =
+    let need : needs g rest ≤ 9 = needs_9 g rest in
+    sym (level_8 g (deeper g n) (symbols_of marks ++ rest)) ∙ back g n d limit 8 marks rest e is (omega arith) (omega arith) (omega arith)
+    ∙ ap (cut limit marks rest) (resume-postfix g n 8 (level x) (links x) x rest high ∙ climb_8 g n (after_postfix g n (links x) x rest))
