@@ -33,7 +33,7 @@ use Rattle.kt_grammar.specs.Cut.{cut}
 use Rattle.kt_grammar.specs.CutLaws.{cut-bind, cut-joined, cut-first, cut-token, cut-then, cut-end, cut-none, begins-append, begins-weaker, begins-at, left_length}
 use Rattle.kt_grammar.specs.BackLaws.{sign-back, name-back, type-cut, type-begins, listed-last, listed-more}
 use Rattle.kt_grammar.proofs.Beginnings.{expr_begins}
-use Rattle.kt_grammar.proofs.Fronts.{Quiet, quiet, question-quiet, stop, stop-le, stop-mono, needs_7, needs_9, no_postfix, nothing_of_base, nothing_closed, needs-binary, needs-assign, needs-question, needs-colon, needs-comma, needs-close, needs-bracket, prefix_of-sign, prefix_sign-closed, assign_of-sign, precedence-bounds, binary_here-low, binary_here-high}
+use Rattle.kt_grammar.proofs.Fronts.{Quiet, quiet, question-quiet, stop, stop-le, stop-mono, needs_7, needs-postfix, no_call, no_postfix, nothing_of_base, nothing_closed, needs-binary, needs-assign, needs-question, needs-colon, needs-comma, needs-close, needs-bracket, prefix_of-sign, prefix_sign-closed, assign_of-sign, precedence-bounds, binary_here-low, binary_here-high}
 use Rattle.kt_grammar.proofs.Resuming.{after_postfix, after_postfix-step, after_chain, after_chain-none, after_chain-step, operand_at, climbing, resume, resume-postfix, resume-chain, resume-quiet}
 
 -- a token at its depth
@@ -96,9 +96,63 @@ unfolding climb_at
 climb_8 g n read = bind_pair read
 
 -- an expression of the highest level, and more postfix operators
-postfix_back : (x : Term) → IsBack x → (g : Dialect) (n d limit : ℕ) (marks : List Mark) (rest : List Symbol) → d + n ≡ limit → spells g d x marks → 9 ≤ level x
+postfix_back : (x : Term) → IsBack x → (g : Dialect) (n d limit : ℕ) (marks : List Mark) (rest : List Symbol) → d + n ≡ limit → spells g d x marks → 9 ≤ level x → begins_postfix g rest ≡ true
     → unary_at g (deeper g n) (symbols_of marks ++ rest) ≡ cut limit marks rest (after_postfix g n (links x) x rest)
-postfix_back x back g n d limit marks rest e is high =
-    let need : needs g rest ≤ 9 = needs_9 g rest in
+postfix_back x back g n d limit marks rest e is high follows =
+    let need : needs g rest ≡ 9 = needs-postfix g rest follows in
     sym (level_8 g (deeper g n) (symbols_of marks ++ rest)) ∙ back g n d limit 8 marks rest e is (omega arith) (omega arith) (omega arith)
     ∙ ap (cut limit marks rest) (resume-postfix g n 8 (level x) (links x) x rest high ∙ climb_8 g n (after_postfix g n (links x) x rest))
+
+-- ---- primary expressions of one token
+
+constant_back : (at : ℕ) (k : Number) → IsBack (Constant at k)
+unfolding unary_at primary_at
+constant_back at k g n d limit least marks rest e is low high need =
+    from_postfix (Constant at k) g n limit least marks rest (omega arith) (cut-token (unary_at g (deeper g n)) limit d (symbol.Number at k) marks rest (after_postfix g n 0 (Constant at k) rest) is (omega arith) refl)
+
+character_back : (at b : ℕ) → IsBack (Character at b)
+unfolding unary_at primary_at
+character_back at b g n d limit least marks rest e is low high need =
+    from_postfix (Character at b) g n limit least marks rest (omega arith) (cut-token (unary_at g (deeper g n)) limit d (symbol.Character at b) marks rest (after_postfix g n 0 (Character at b) rest) is (omega arith) refl)
+
+text_back : (at : ℕ) (bytes : List ℕ) → IsBack (Text at bytes)
+unfolding unary_at primary_at
+text_back at bytes C n d limit least marks rest e is low high need =
+    from_postfix (Text at bytes) C n limit least marks rest (omega arith) (cut-token (unary_at C (deeper C n)) limit d (symbol.Text at bytes) marks rest (after_postfix C n 0 (Text at bytes) rest) is.1 (omega arith) refl)
+text_back at bytes Rules n d limit least marks rest e is low high need = let c = is.0 in absurd cc
+
+null_back : (at : ℕ) → IsBack (Null at)
+unfolding unary_at primary_at
+null_back at g n d limit least marks rest e is low high need =
+    from_postfix (Null at) g n limit least marks rest (omega arith) (cut-token (unary_at g (deeper g n)) limit d (symbol.Keyword at keywords.Null) marks rest (after_postfix g n 0 (Null at) rest) is (omega arith) refl)
+
+eof_back : (at : ℕ) → IsBack (Eof at)
+unfolding unary_at primary_at
+eof_back at g n d limit least marks rest e is low high need =
+    from_postfix (Eof at) g n limit least marks rest (omega arith) (cut-token (unary_at g (deeper g n)) limit d (symbol.Keyword at keywords.Eof) marks rest (after_postfix g n 0 (Eof at) rest) is (omega arith) refl)
+
+value-at : (r : Option Readers) (at : ℕ) (word : RuleWord) (rest : List Symbol) → is_value word ≡ true → rule_at Rules r at word rest ≡ Ok (RuleValue at word, rest)
+unfolding rule_at
+value-at r at rule.In rest h = refl
+value-at r at rule.Out rest h = refl
+value-at r at rule.Base rest h = refl
+value-at r at _ rest h = absurd cc
+
+value_back : (at : ℕ) (word : RuleWord) → IsBack (RuleValue at word)
+unfolding unary_at primary_at
+value_back at word C n d limit least marks rest e is low high need = let c = is.0 in absurd cc
+value_back at word Rules n d limit least marks rest e is low high need =
+    from_postfix (RuleValue at word) Rules n limit least marks rest (omega arith)
+    (cut-token (unary_at Rules (deeper Rules n)) limit d (symbol.RuleWord at word) marks rest (after_postfix Rules n 0 (RuleValue at word) rest) is.1.1 (omega arith)
+        (ap (λ a. a >>= λ x. postfix_at Rules (deeper Rules n) x.0 x.1) (value-at (deeper Rules n) at word rest is.1.0)))
+
+named-at : (g : Dialect) (r : Option Readers) (n : Name) (symbols : List Symbol) → (is_c g && begins_sign signs.OpenParenthesis symbols) ≡ false → named_at g r n symbols ≡ Ok (Named n, symbols)
+unfolding named_at
+named-at g r n symbols h = ap (λ b. if b then (arguments_at g r (drop 1 symbols) >>= λ args. Ok (Called n (terms_of args.0), args.1)) else Ok (Named n, symbols)) h
+
+named_back : (n : Name) → IsBack (Named n)
+unfolding unary_at primary_at
+named_back name g n d limit least marks rest e is low high need =
+    from_postfix (Named name) g n limit least marks rest (omega arith)
+    (cut-token (unary_at g (deeper g n)) limit d (symbol.Name name.at name.word) marks rest (after_postfix g n 0 (Named name) rest) is (omega arith)
+        (ap (λ a. a >>= λ x. postfix_at g (deeper g n) x.0 x.1) (named-at g (deeper g n) name rest (no_call g rest need))))

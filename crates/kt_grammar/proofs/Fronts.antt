@@ -1,5 +1,5 @@
 -- Which operator stands at the front, and which levels go on behind an expression there.
-use Rattle.std.specs.Prelude.{◌≡◌, ◌≢◌, ℕ, zero, suc, ◌+◌, ◌<◌, ◌≤◌, ◌==◌, ◌||◌, Bool, true, false, List, [], ◌∷◌, ◌++◌, Option, Some, None, Result, Ok, Err, if◌then◌else◌}
+use Rattle.std.specs.Prelude.{◌≡◌, ◌≢◌, ℕ, zero, suc, ◌+◌, ◌<◌, ◌≤◌, ◌==◌, ◌||◌, ◌&&◌, Bool, true, false, List, [], ◌∷◌, ◌++◌, Option, Some, None, Result, Ok, Err, if◌then◌else◌}
 use Rattle.std.specs.Option.{is_some}
 use Rattle.std.proofs.Common.{refl, sym, ap, subst, ◌∙◌, arith}
 use Rattle.std.proofs.lemmas.Bool.Decides.{nat_tests}
@@ -123,7 +123,7 @@ no_postfix g _ h = refl
 
 not_question : (g : Dialect) (at : ℕ) (s : Sign) (rest : List Symbol) → needs g (symbol.Sign at s ∷ rest) ≤ 1 → same_sign s signs.Question ≡ false
 unfolding needs
-not_question g at s rest h = taken (same_sign s signs.Question) 2 _ 1 (left (begins_postfix g (symbol.Sign at s ∷ rest)) 9 _ 1 h (omega arith)) (omega arith)
+not_question g at s rest h = taken (same_sign s signs.Question) 2 _ 1 (left (is_c g && same_sign s signs.OpenParenthesis) 10 _ 1 (left (begins_postfix g (symbol.Sign at s ∷ rest)) 9 _ 1 h (omega arith)) (omega arith)) (omega arith)
 
 pub nothing_there : {A : Type 0} (o : Option A) → is_some o ≡ false → o ≡ None
 nothing_there None h = refl
@@ -132,7 +132,7 @@ nothing_there (Some x) h = absurd cc
 not_assign : (g : Dialect) (at : ℕ) (s : Sign) (rest : List Symbol) → needs g (symbol.Sign at s ∷ rest) ≤ 0 → assign_of g s ≡ None
 unfolding needs
 not_assign g at s rest h =
-    nothing_there (assign_of g s) (taken (is_some (assign_of g s)) 1 _ 0 (left (same_sign s signs.Question) 2 _ 0 (left (begins_postfix g (symbol.Sign at s ∷ rest)) 9 _ 0 h (omega arith)) (omega arith)) (omega arith))
+    nothing_there (assign_of g s) (taken (is_some (assign_of g s)) 1 _ 0 (left (same_sign s signs.Question) 2 _ 0 (left (is_c g && same_sign s signs.OpenParenthesis) 10 _ 0 (left (begins_postfix g (symbol.Sign at s ∷ rest)) 9 _ 0 h (omega arith)) (omega arith)) (omega arith)) (omega arith))
 
 -- a sign needs no less than as a binary operator
 binary_needs-le : (g : Dialect) (at : ℕ) (s : Sign) (rest : List Symbol) → binary_needs s ≤ needs g (symbol.Sign at s ∷ rest)
@@ -232,9 +232,10 @@ stop-mono (suc (suc l)) zero h = absurd (omega arith)
 stop-mono (suc (suc l)) (suc zero) h = absurd (omega arith)
 stop-mono (suc (suc l)) (suc (suc k)) h = omega arith
 
-needs_8 : (b : Bool) (m : ℕ) → (if b then 9 else m) ≤ 8 → m ≤ 7 → (if b then 9 else m) ≤ 7
-needs_8 true m h k = absurd (omega arith)
-needs_8 false m h k = k
+needs_8 : (b c : Bool) (m : ℕ) → (if b then 9 else (if c then 10 else m)) ≤ 8 → m ≤ 7 → (if b then 9 else (if c then 10 else m)) ≤ 7
+needs_8 true c m h k = absurd (omega arith)
+needs_8 false true m h k = absurd (omega arith)
+needs_8 false false m h k = k
 
 few : (b : Bool) (n m : ℕ) → n ≤ 7 → m ≤ 7 → (if b then n else m) ≤ 7
 few true n m h k = h
@@ -248,7 +249,7 @@ binary_few (Some op) = (precedence-bounds op).1
 pub needs_7 : (g : Dialect) (symbols : List Symbol) → needs g symbols ≤ 8 → needs g symbols ≤ 7
 unfolding needs
 needs_7 g (symbol.Sign at s ∷ rest) h =
-    needs_8 (begins_postfix g (symbol.Sign at s ∷ rest)) _ h (few (same_sign s signs.Question) 2 _ (omega arith) (few (is_some (assign_of g s)) 1 _ (omega arith) (binary_few (binary_of s))))
+    needs_8 (begins_postfix g (symbol.Sign at s ∷ rest)) (is_c g && same_sign s signs.OpenParenthesis) _ h (few (same_sign s signs.Question) 2 _ (omega arith) (few (is_some (assign_of g s)) 1 _ (omega arith) (binary_few (binary_of s))))
 needs_7 g _ h = omega arith
 
 -- ---- what begins an expression
@@ -281,14 +282,17 @@ unfolding begins_sign
 nothing_closed g [] h = refl
 nothing_closed g (s ∷ rest) h = no_close g s rest h
 
-needs_any : (b : Bool) (m : ℕ) → m ≤ 9 → (if b then 9 else m) ≤ 9
-needs_any true m h = omega arith
-needs_any false m h = h
+-- a postfix operator needs level 9
+pub needs-postfix : (g : Dialect) (symbols : List Symbol) → begins_postfix g symbols ≡ true → needs g symbols ≡ 9
+unfolding needs begins_postfix
+needs-postfix g (symbol.Sign at s ∷ rest) h =
+    ap (λ b. if b then 9 else (if is_c g && same_sign s signs.OpenParenthesis then 10 else (if same_sign s signs.Question then 2 else (if is_some (assign_of g s) then 1 else binary_needs s)))) h
+needs-postfix g _ h = absurd cc
 
--- no operator needs more than level 9
-pub needs_9 : (g : Dialect) (symbols : List Symbol) → needs g symbols ≤ 9
-unfolding needs
-needs_9 g (symbol.Sign at s ∷ rest) =
-    let f = few (same_sign s signs.Question) 2 _ (omega arith) (few (is_some (assign_of g s)) 1 _ (omega arith) (binary_few (binary_of s))) in
-    needs_any (begins_postfix g (symbol.Sign at s ∷ rest)) _ (omega arith)
-needs_9 g _ = omega arith
+-- no call goes on behind an expression
+pub no_call : (g : Dialect) (symbols : List Symbol) → needs g symbols ≤ 9 → (is_c g && begins_sign signs.OpenParenthesis symbols) ≡ false
+unfolding needs begins_postfix step_of assign_of begins_sign
+no_call C (symbol.Sign at signs.OpenParenthesis ∷ rest) h = absurd (omega arith)
+no_call C (symbol.Sign at _ ∷ rest) h = refl
+no_call C _ h = refl
+no_call Rules symbols h = refl
