@@ -156,3 +156,34 @@ named_back name g n d limit least marks rest e is low high need =
     from_postfix (Named name) g n limit least marks rest (omega arith)
     (cut-token (unary_at g (deeper g n)) limit d (symbol.Name name.at name.word) marks rest (after_postfix g n 0 (Named name) rest) is (omega arith)
         (ap (λ a. a >>= λ x. postfix_at g (deeper g n) x.0 x.1) (named-at g (deeper g n) name rest (no_call g rest need))))
+
+-- ---- primary expressions in parentheses
+
+-- the parts, with a sign as the first of the back
+sign_parts : (d : ℕ) (s : Sign) (B : List Mark → Type 0) (marks front back : List Mark) → marks ≡ front ++ back → (j : Joined (sign d s) B back) → marks ≡ front ++ (at_depth d (symbol.Sign j.first.0 s) ∷ j.back)
+sign_parts d s B marks front back parts j = parts ∙ ap (λ b. front ++ b) (j.parts ∙ ap (λ f. f ++ j.back) j.first.1)
+
+-- a sign that is all of the back
+last_sign_parts : (d : ℕ) (s : Sign) (marks front back : List Mark) → marks ≡ front ++ back → (j : sign d s back) → marks ≡ front ++ (at_depth d (symbol.Sign j.0 s) ∷ [])
+last_sign_parts d s marks front back parts j = parts ∙ ap (λ b. front ++ b) j.1
+
+-- an expression, a closing sign, and what comes then
+closed_back : {B : Type 0} (x : Term) → IsBack x → (g : Dialect) (n d limit e : ℕ) (close : Sign) (marks front back : List Mark) (rest : List Symbol) (next : Term → List Symbol → Result B Fault) (answer : Result B Fault)
+    → d + n ≡ limit → e ≤ limit → ((at : ℕ) (rest : List Symbol) → needs g (symbol.Sign at close ∷ rest) ≡ 0) → marks ≡ front ++ back → spells g (suc d) x front → sign e close back → next x rest ≡ answer
+    → (deep_level g (deeper g n) 0 (symbols_of marks ++ rest) >>= λ a. behind close a.1 >>= λ rest. next a.0 rest) ≡ cut limit marks rest answer
+closed_back x back g n d limit e close marks front last rest next answer sum low need parts is closes after =
+    let follows : needs g (symbols_of last ++ rest) ≡ 0 = ap (λ m. needs g (symbols_of m ++ rest)) closes.1 ∙ need closes.0 rest in
+    cut-then (deep_level g (deeper g n) 0) (λ a. behind close a.1 >>= λ rest. next a.0 rest) limit marks front last rest (x, symbols_of last ++ rest) answer parts
+    (deep_back x back g n d limit 0 front (symbols_of last ++ rest) sum is (omega arith) (omega arith) (omega arith))
+    (cut-end (behind close) (next x) limit last rest rest answer (sign-back limit e close last rest closes low) after)
+
+parenthesised_back : (at : ℕ) (a : Term) → IsBack a → IsBack (Parenthesised at a)
+unfolding unary_at parenthesis_at
+parenthesised_back at a back g n d limit least marks rest e is low high need =
+    let inner = is.second in
+    let nothing : begins_base (symbols_of is.back ++ rest) ≡ false =
+    nothing_of_base g (symbols_of is.back ++ rest)
+    (begins-at (λ s. begins_expr g s ≡ true) (suc d) is.back rest (begins-append (λ s. begins_expr g s ≡ true) (suc d) is.back inner.front inner.back inner.parts (expr_begins g (suc d) a inner.front inner.first))) in
+    from_postfix (Parenthesised at a) g n limit least marks rest (omega arith)
+    (cut-first (unary_at g (deeper g n)) limit d (symbol.Sign at signs.OpenParenthesis) marks is.front is.back rest (after_postfix g n 0 (Parenthesised at a) rest) is.parts is.first (omega arith)
+        (rw (nothing) (closed_back a back g n d limit d signs.CloseParenthesis is.back inner.front inner.back rest (λ a rest. postfix_at g (deeper g n) (Parenthesised at a) rest) (after_postfix g n 0 (Parenthesised at a) rest) e (omega arith) (needs-close g) inner.parts inner.first inner.second refl)))
