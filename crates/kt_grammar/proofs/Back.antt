@@ -1,8 +1,8 @@
 -- An expression that is spelled is read back.
-use Rattle.std.specs.Prelude.{◌≡◌, ℕ, zero, suc, ◌+◌, ◌-◌, ◌<◌, ◌≤◌, ◌==◌, ◌&&◌, not, Bool, true, false, List, [], ◌∷◌, ◌++◌, length, drop, Option, Some, None, Result, Ok, Err, if◌then◌else◌}
+use Rattle.std.specs.Prelude.{◌≡◌, ℕ, zero, suc, ◌+◌, ◌-◌, ◌<◌, ◌≤◌, ◌==◌, ◌&&◌, not, nat_le, nat_lt, Bool, true, false, List, [], ◌∷◌, ◌++◌, length, drop, Option, Some, None, Result, Ok, Err, if◌then◌else◌}
 use Rattle.std.proofs.Common.{refl, sym, ap, subst, ◌∙◌, arith, inl, inr, ◌⊎◌, append_assoc}
 use Rattle.std.proofs.lemmas.List.{length-append}
-use Rattle.std.proofs.lemmas.Bool.Decides.{eqb_tells}
+use Rattle.std.proofs.lemmas.Bool.Decides.{eqb_tells, nat_tests}
 use Rattle.kt_lex.specs.declared.number.Number.{Number}
 use Rattle.kt_grammar.specs.declared.fault.Fault.{Fault}
 use Rattle.kt_grammar.specs.declared.keyword.Keyword.{Keyword}
@@ -25,7 +25,7 @@ use Rattle.kt_grammar.specs.declared.tree.TypeName.{TypeName}
 use Rattle.kt_grammar.specs.Tree.{Term, Terms, Nothing, More, Constant, Character, Text, Null, Eof, Named, Called, Parenthesised, SizeOf, RuleValue, OldSymbol, Transformed, Element, Member, Pointed, Stepped, Prefixed, Converted, Operated, Chosen, Assigned, terms_of}
 use Rattle.kt_grammar.specs.Signs.{is_c, same_sign, precedence, prefix_sign, has_prefix, prefix_of, step_sign, step_of, binary_sign, assign_sign, assign_of}
 use Rattle.kt_grammar.specs.Marks.{Mark, Language, Joined, symbols_of, token, sign}
-use Rattle.kt_grammar.specs.Spelling.{level, links, links_at, is_value, spells, arguments}
+use Rattle.kt_grammar.specs.Spelling.{level, links, links_at, is_value, spells, arguments, between, spells_type}
 use Rattle.kt_grammar.specs.Cursor.{◌>>=◌, Outcome, begins_sign, behind, name_at, listed_at}
 use Rattle.kt_grammar.specs.Reading.{Readers, begins_base, begins_expr, begins_postfix, type_at, between_at, deep, deep_level, more_at, index_at, stepped_at, postfix_at, arguments_at, named_at, old_symbol_at, transform_at, rule_at, primary_at, parenthesis_at, prefixed_at, unary_at, assign_here, chain_at, choice_at, assignment_at, tail_at, climb_at, level_at, deeper, expr_at}
 use Rattle.kt_grammar.specs.Laws.{Begins, needs, ExprIsReadBack}
@@ -187,3 +187,89 @@ parenthesised_back at a back g n d limit least marks rest e is low high need =
     from_postfix (Parenthesised at a) g n limit least marks rest (omega arith)
     (cut-first (unary_at g (deeper g n)) limit d (symbol.Sign at signs.OpenParenthesis) marks is.front is.back rest (after_postfix g n 0 (Parenthesised at a) rest) is.parts is.first (omega arith)
         (rw (nothing) (closed_back a back g n d limit d signs.CloseParenthesis is.back inner.front inner.back rest (λ a rest. postfix_at g (deeper g n) (Parenthesised at a) rest) (after_postfix g n 0 (Parenthesised at a) rest) e (omega arith) (needs-close g) inner.parts inner.first inner.second refl)))
+
+-- a type name, a closing parenthesis, and what comes then
+type_closed : {B : Type 0} (limit d : ℕ) (t : TypeName) (marks front close back : List Mark) (rest : List Symbol) (next : TypeName → List Symbol → Result B Fault) (answer : Result B Fault)
+    → d ≤ limit → marks ≡ front ++ (close ++ back) → spells_type d t front → sign d signs.CloseParenthesis close → next t (symbols_of back ++ rest) ≡ cut limit back rest answer
+    → (type_at (symbols_of marks ++ rest) >>= λ t. behind signs.CloseParenthesis t.1 >>= λ rest. next t.0 rest) ≡ cut limit marks rest answer
+unfolding begins_sign
+type_closed limit d t marks front close back rest next answer low parts is closes after =
+    let no_star : begins_sign signs.Star (symbols_of (close ++ back) ++ rest) ≡ false = ap (λ m. begins_sign signs.Star (symbols_of (m ++ back) ++ rest)) closes.1 in
+    cut-then type_at (λ t. behind signs.CloseParenthesis t.1 >>= λ rest. next t.0 rest) limit marks front (close ++ back) rest (t, symbols_of (close ++ back) ++ rest) answer parts
+    (type-cut limit d t front (symbols_of (close ++ back) ++ rest) is no_star low)
+    (cut-then (behind signs.CloseParenthesis) (next t) limit (close ++ back) close back rest (symbols_of back ++ rest) answer refl (sign-back limit d signs.CloseParenthesis close (symbols_of back ++ rest) closes low) after)
+
+between_back : (limit d : ℕ) (t : TypeName) (marks : List Mark) (rest : List Symbol) → d ≤ limit → between d (spells_type d t) marks → between_at (symbols_of marks ++ rest) ≡ cut limit marks rest (Ok (t, rest))
+between_back limit d t marks rest low is =
+    let inner = is.second in
+    cut-then (behind signs.OpenParenthesis) (λ inner. type_at inner >>= λ t. behind signs.CloseParenthesis t.1 >>= λ rest. Ok (t.0, rest)) limit marks is.front is.back rest (symbols_of is.back ++ rest) (Ok (t, rest)) is.parts
+    (sign-back limit d signs.OpenParenthesis is.front (symbols_of is.back ++ rest) is.first low)
+    (type_closed limit d t is.back inner.front (at_depth d (symbol.Sign inner.second.0 signs.CloseParenthesis) ∷ []) [] rest (λ t rest. Ok (t, rest)) (Ok (t, rest)) low
+        (last_sign_parts d signs.CloseParenthesis is.back inner.front inner.back inner.parts inner.second) inner.first (inner.second.0, refl) refl)
+
+size_back : (at : ℕ) (type : TypeName) → IsBack (SizeOf at type)
+unfolding unary_at primary_at
+size_back at type Rules n d limit least marks rest e is low high need = let c = is.0 in absurd cc
+size_back at type C n d limit least marks rest e is low high need =
+    from_postfix (SizeOf at type) C n limit least marks rest (omega arith)
+    (cut-first (unary_at C (deeper C n)) limit d (symbol.Keyword at keywords.SizeOf) marks is.1.front is.1.back rest (after_postfix C n 0 (SizeOf at type) rest) is.1.parts is.1.first (omega arith)
+        (cut-end (λ s. between_at s >>= λ t. Ok (SizeOf at t.0, t.1)) (λ x. postfix_at C (deeper C n) x.0 x.1) limit is.1.back rest (SizeOf at type, rest) (after_postfix C n 0 (SizeOf at type) rest)
+            (cut-end between_at (λ t. Ok (SizeOf at t.0, t.1)) limit is.1.back rest (type, rest) (Ok (SizeOf at type, rest)) (between_back limit d type is.1.back rest (omega arith) is.1.second) refl) refl))
+
+old_symbol_back : (at : ℕ) (name : Name) → IsBack (OldSymbol at name)
+unfolding unary_at primary_at rule_at old_symbol_at
+old_symbol_back at name C n d limit least marks rest e is low high need = let c = is.0 in absurd cc
+old_symbol_back at name Rules n d limit least marks rest e is low high need =
+    let j = is.1.second in let k = j.second in
+    from_postfix (OldSymbol at name) Rules n limit least marks rest (omega arith)
+    (cut-first (unary_at Rules (deeper Rules n)) limit d (symbol.RuleWord at rule.OldSymbol) marks is.1.front is.1.back rest (after_postfix Rules n 0 (OldSymbol at name) rest) is.1.parts is.1.first (omega arith)
+        (cut-end (old_symbol_at at) (λ x. postfix_at Rules (deeper Rules n) x.0 x.1) limit is.1.back rest (OldSymbol at name, rest) (after_postfix Rules n 0 (OldSymbol at name) rest)
+            (cut-then (behind signs.OpenParenthesis) (λ inner. name_at inner >>= λ n. behind signs.CloseParenthesis n.1 >>= λ rest. Ok (OldSymbol at n.0, rest)) limit is.1.back j.front j.back rest (symbols_of j.back ++ rest) (Ok (OldSymbol at name, rest)) j.parts
+                (sign-back limit d signs.OpenParenthesis j.front (symbols_of j.back ++ rest) j.first (omega arith))
+                (cut-then name_at (λ n. behind signs.CloseParenthesis n.1 >>= λ rest. Ok (OldSymbol at n.0, rest)) limit j.back k.front k.back rest (name, symbols_of k.back ++ rest) (Ok (OldSymbol at name, rest)) k.parts
+                    (name-back limit d name k.front (symbols_of k.back ++ rest) k.first (omega arith))
+                    (cut-end (behind signs.CloseParenthesis) (λ rest. Ok (OldSymbol at name, rest)) limit k.back rest rest (Ok (OldSymbol at name, rest)) (sign-back limit d signs.CloseParenthesis k.back rest k.second (omega arith)) refl))) refl))
+
+transformed_back : (at : ℕ) (a : Term) → IsBack a → IsBack (Transformed at a)
+unfolding unary_at primary_at rule_at transform_at
+transformed_back at a back C n d limit least marks rest e is low high need = let c = is.0 in absurd cc
+transformed_back at a back Rules n d limit least marks rest e is low high need =
+    let j = is.1.second in let k = j.second in
+    from_postfix (Transformed at a) Rules n limit least marks rest (omega arith)
+    (cut-first (unary_at Rules (deeper Rules n)) limit d (symbol.RuleWord at rule.Transform) marks is.1.front is.1.back rest (after_postfix Rules n 0 (Transformed at a) rest) is.1.parts is.1.first (omega arith)
+        (cut-end (transform_at Rules (deeper Rules n) at) (λ x. postfix_at Rules (deeper Rules n) x.0 x.1) limit is.1.back rest (Transformed at a, rest) (after_postfix Rules n 0 (Transformed at a) rest)
+            (cut-then (behind signs.OpenParenthesis) (λ inner. deep_level Rules (deeper Rules n) 0 inner >>= λ a. behind signs.CloseParenthesis a.1 >>= λ rest. Ok (Transformed at a.0, rest)) limit is.1.back j.front j.back rest (symbols_of j.back ++ rest) (Ok (Transformed at a, rest)) j.parts
+                (sign-back limit d signs.OpenParenthesis j.front (symbols_of j.back ++ rest) j.first (omega arith))
+                (closed_back a back Rules n d limit d signs.CloseParenthesis j.back k.front k.back rest (λ a rest. Ok (Transformed at a, rest)) (Ok (Transformed at a, rest)) e (omega arith) (needs-close Rules) k.parts k.first k.second refl)) refl))
+
+-- ---- prefix operators and casts
+
+nat_le-is : (n m : ℕ) → nat_le n m ≡ true → n ≤ m
+nat_le-is n m h = grind (arith, nat_tests)
+
+unary-prefix : (g : Dialect) (r : Option Readers) (at : ℕ) (op : PrefixOperator) (symbols : List Symbol) → has_prefix g op ≡ true
+    → unary_at g r (symbol.Sign at (prefix_sign op) ∷ symbols) ≡ (deep_level g r 8 symbols >>= λ a. Ok (Prefixed at op a.0, a.1))
+unfolding unary_at prefixed_at
+unary-prefix g r at op symbols h = rw (prefix_sign-closed op, prefix_of-sign g op h) refl
+
+prefixed_back : (at : ℕ) (op : PrefixOperator) (a : Term) → IsBack a → IsBack (Prefixed at op a)
+prefixed_back at op a back g n d limit least marks rest e is low high need =
+    let j = is.1.1 in
+    let lvl : 8 ≤ level a = nat_le-is 8 (level a) is.1.0 in
+    from_unary (Prefixed at op a) g n limit least marks rest
+    (cut-first (unary_at g (deeper g n)) limit d (symbol.Sign at (prefix_sign op)) marks j.front j.back rest (Ok (Prefixed at op a, rest)) j.parts j.first (omega arith)
+        (unary-prefix g (deeper g n) at op (symbols_of j.back ++ rest) is.0
+            ∙ cut-end (deep_level g (deeper g n) 8) (λ a. Ok (Prefixed at op a.0, a.1)) limit j.back rest (a, rest) (Ok (Prefixed at op a, rest)) (deep_back a back g n d limit 8 j.back rest e j.second (omega arith) lvl (needs_7 g rest need)) refl))
+
+converted_back : (at : ℕ) (type : TypeName) (a : Term) → IsBack a → IsBack (Converted at type a)
+unfolding unary_at parenthesis_at
+converted_back at type a back g n d limit least marks rest e is low high need =
+    let j = is.1 in let k = j.second in let l = k.second in
+    let lvl : 8 ≤ level a = nat_le-is 8 (level a) is.0 in
+    let based : begins_base (symbols_of j.back ++ rest) ≡ true =
+    begins-at (λ s. begins_base s ≡ true) d j.back rest (begins-append (λ s. begins_base s ≡ true) d j.back k.front k.back k.parts (type-begins d type k.front k.first)) in
+    from_unary (Converted at type a) g n limit least marks rest
+    (cut-first (unary_at g (deeper g n)) limit d (symbol.Sign at signs.OpenParenthesis) marks j.front j.back rest (Ok (Converted at type a, rest)) j.parts j.first (omega arith)
+        (rw (based) (type_closed limit d type j.back k.front l.front l.back rest (λ t rest. deep_level g (deeper g n) 8 rest >>= λ a. Ok (Converted at t a.0, a.1)) (Ok (Converted at type a, rest)) (omega arith)
+            (k.parts ∙ ap (λ b. k.front ++ b) l.parts) k.first l.first
+            (cut-end (deep_level g (deeper g n) 8) (λ a. Ok (Converted at type a.0, a.1)) limit l.back rest (a, rest) (Ok (Converted at type a, rest)) (deep_back a back g n d limit 8 l.back rest e l.second (omega arith) lvl (needs_7 g rest need)) refl))))
