@@ -33,7 +33,7 @@ use Rattle.kt_grammar.specs.Cut.{cut}
 use Rattle.kt_grammar.specs.CutLaws.{cut-bind, cut-joined, cut-first, cut-token, cut-then, cut-end, cut-none, begins-append, begins-weaker, begins-at, left_length}
 use Rattle.kt_grammar.specs.BackLaws.{sign-back, name-back, type-cut, type-begins, listed-last, listed-more}
 use Rattle.kt_grammar.proofs.Beginnings.{expr_begins}
-use Rattle.kt_grammar.proofs.Fronts.{Quiet, quiet, question-quiet, stop, stop-le, stop-mono, needs_7, needs-postfix, no_call, no_postfix, nothing_of_base, nothing_closed, needs-binary, needs-assign, needs-question, needs-colon, needs-comma, needs-close, needs-bracket, prefix_of-sign, prefix_sign-closed, assign_of-sign, precedence-bounds, binary_here-low, binary_here-high}
+use Rattle.kt_grammar.proofs.Fronts.{Quiet, quiet, question-quiet, stop, stop-le, stop-mono, stop-above, needs_7, needs-postfix, no_call, no_postfix, nothing_of_base, nothing_closed, needs-binary, needs-assign, needs-question, needs-colon, needs-comma, needs-close, needs-bracket, prefix_of-sign, prefix_sign-closed, assign_of-sign, precedence-bounds, binary_here-low, binary_here-high}
 use Rattle.kt_grammar.proofs.Resuming.{after_postfix, after_postfix-step, after_chain, after_chain-none, after_chain-step, operand_at, climbing, resume, resume-postfix, resume-chain, resume-quiet}
 
 -- a token at its depth
@@ -244,6 +244,9 @@ transformed_back at a back Rules n d limit least marks rest e is low high need =
 
 -- ---- prefix operators and casts
 
+nat_lt-is : (n m : ℕ) → nat_lt n m ≡ true → n < m
+nat_lt-is n m h = grind (arith, nat_tests)
+
 nat_le-is : (n m : ℕ) → nat_le n m ≡ true → n ≤ m
 nat_le-is n m h = grind (arith, nat_tests)
 
@@ -273,3 +276,120 @@ converted_back at type a back g n d limit least marks rest e is low high need =
         (rw (based) (type_closed limit d type j.back k.front l.front l.back rest (λ t rest. deep_level g (deeper g n) 8 rest >>= λ a. Ok (Converted at t a.0, a.1)) (Ok (Converted at type a, rest)) (omega arith)
             (k.parts ∙ ap (λ b. k.front ++ b) l.parts) k.first l.first
             (cut-end (deep_level g (deeper g n) 8) (λ a. Ok (Converted at type a.0, a.1)) limit l.back rest (a, rest) (Ok (Converted at type a, rest)) (deep_back a back g n d limit 8 l.back rest e l.second (omega arith) lvl (needs_7 g rest need)) refl))))
+
+-- ---- postfix operators
+
+-- an expression, and a postfix operator that begins with this sign
+chained_back : (a x : Term) → IsBack a → (g : Dialect) (n d limit least : ℕ) (s : Symbol) (marks front back : List Mark) (rest : List Symbol) → d + n ≡ limit → 9 ≤ level a → 9 ≤ level x → links x ≡ suc (links a)
+    → marks ≡ front ++ (at_depth (d + links a) s ∷ back) → spells g d a front → ((rest : List Symbol) → begins_postfix g (s ∷ rest) ≡ true)
+    → ((m : ℕ) → d + links a + m ≡ limit → postfix_at g (deeper g m) a (s ∷ (symbols_of back ++ rest)) ≡ cut limit back rest (more_at g (deeper g m) x rest))
+    → level_at g (deeper g n) least (symbols_of marks ++ rest) ≡ cut limit marks rest (resume g n least (level x) (links x) x rest)
+chained_back a x back_a g n d limit least s marks front back rest e high_a high_x more parts is begins read =
+    from_postfix x g n limit least marks rest high_x
+    (cut-joined (unary_at g (deeper g n)) limit marks front (at_depth (d + links a) s ∷ back) rest (after_postfix g n (links x) x rest) parts
+        (postfix_back a back_a g n d limit front (s ∷ (symbols_of back ++ rest)) e is high_a (begins (symbols_of back ++ rest))
+            ∙ ap (cut limit front (s ∷ (symbols_of back ++ rest)))
+            (after_postfix-step g n (links a) limit (d + links a) s back rest a x (omega arith) (begins (symbols_of back ++ rest)) (λ m f. read m (omega arith))
+                ∙ ap (λ k. cut limit (at_depth (d + links a) s ∷ back) rest (after_postfix g n k x rest)) (sym more))))
+
+element_back : (a i : Term) → IsBack a → IsBack i → IsBack (Element a i)
+unfolding postfix_at index_at begins_postfix
+element_back a i back_a back_i g n d limit least marks rest e is low high need =
+    let j = is.1 in let k = j.second in let l = k.second in
+    chained_back a (Element a i) back_a g n d limit least (symbol.Sign k.first.0 signs.OpenBracket) marks j.front k.back rest e (nat_le-is 9 (level a) is.0) (omega arith) refl
+    (sign_parts (d + links a) signs.OpenBracket _ marks j.front j.back j.parts k) j.first (λ rest. refl)
+    (λ m f. closed_back i back_i g m (d + links a) limit (d + links a) signs.CloseBracket k.back l.front l.back rest (λ i rest. more_at g (deeper g m) (Element a i) rest) (more_at g (deeper g m) (Element a i) rest) f (omega arith) (needs-bracket g) l.parts l.first l.second refl)
+
+member_back : (a : Term) (f : Name) → IsBack a → IsBack (Member a f)
+unfolding postfix_at begins_postfix
+member_back a f back_a g n d limit least marks rest e is low high need =
+    let j = is.1 in let k = j.second in
+    chained_back a (Member a f) back_a g n d limit least (symbol.Sign k.first.0 signs.Dot) marks j.front k.back rest e (nat_le-is 9 (level a) is.0) (omega arith) refl
+    (sign_parts (d + links a) signs.Dot _ marks j.front j.back j.parts k) j.first (λ rest. refl)
+    (λ m t. cut-end name_at (λ n. more_at g (deeper g m) (Member a n.0) n.1) limit k.back rest (f, rest) (more_at g (deeper g m) (Member a f) rest) (name-back limit (d + links a) f k.back rest k.second (omega arith)) refl)
+
+pointed_back : (a : Term) (f : Name) → IsBack a → IsBack (Pointed a f)
+unfolding postfix_at begins_postfix
+pointed_back a f back_a g n d limit least marks rest e is low high need =
+    let j = is.1 in let k = j.second in
+    chained_back a (Pointed a f) back_a g n d limit least (symbol.Sign k.first.0 signs.Arrow) marks j.front k.back rest e (nat_le-is 9 (level a) is.0) (omega arith) refl
+    (sign_parts (d + links a) signs.Arrow _ marks j.front j.back j.parts k) j.first (λ rest. refl)
+    (λ m t. cut-end name_at (λ n. more_at g (deeper g m) (Pointed a n.0) n.1) limit k.back rest (f, rest) (more_at g (deeper g m) (Pointed a f) rest) (name-back limit (d + links a) f k.back rest k.second (omega arith)) refl)
+
+postfix-step : (r : Option Readers) (a : Term) (op : StepOperator) (at : ℕ) (rest : List Symbol) → postfix_at C r a (symbol.Sign at (step_sign op) ∷ rest) ≡ more_at C r (Stepped a op) rest
+unfolding postfix_at stepped_at step_of
+postfix-step r a step.Increment at rest = refl
+postfix-step r a step.Decrement at rest = refl
+
+step-begins : (op : StepOperator) (at : ℕ) (rest : List Symbol) → begins_postfix C (symbol.Sign at (step_sign op) ∷ rest) ≡ true
+unfolding begins_postfix step_of
+step-begins step.Increment at rest = refl
+step-begins step.Decrement at rest = refl
+
+stepped_back : (a : Term) (op : StepOperator) → IsBack a → IsBack (Stepped a op)
+stepped_back a op back_a Rules n d limit least marks rest e is low high need = let c = is.0 in absurd cc
+stepped_back a op back_a C n d limit least marks rest e is low high need =
+    let j = is.1.1 in let k = j.second in
+    chained_back a (Stepped a op) back_a C n d limit least (symbol.Sign k.0 (step_sign op)) marks j.front [] rest e (nat_le-is 9 (level a) is.1.0) (omega arith) refl
+    (last_sign_parts (d + links a) (step_sign op) marks j.front j.back j.parts k) j.first (step-begins op k.0)
+    (λ m t. postfix-step (deeper C m) a op k.0 rest)
+
+-- ---- binary operators
+
+tail-chain : (g : Dialect) (r : Option Readers) (l : ℕ) (x : Term) (symbols : List Symbol) → 2 ≤ l → tail_at g r l x symbols ≡ chain_at g r l x symbols
+unfolding tail_at
+tail-chain g r zero x symbols h = absurd (omega arith)
+tail-chain g r (suc zero) x symbols h = absurd (omega arith)
+tail-chain g r (suc (suc l)) x symbols h = refl
+
+-- behind an expression of a higher level climbing goes on at a level
+arrive_above : (g : Dialect) (n least l k p : ℕ) (x : Term) (symbols : List Symbol) → least ≤ p → p < l → p ≤ 7 → ((i : ℕ) → p < i → Quiet g i symbols) → begins_postfix g symbols ≡ false
+    → resume g n least l k x symbols ≡ climbing g n least (p - least) (tail_at g (deeper g n) p x symbols)
+unfolding climb_at
+arrive_above g n least l k p x symbols low above high quiet none =
+    let e : least + (p - least) ≡ p = omega arith in
+    resume-quiet g n least (suc (p - least)) l k x symbols (omega arith) (omega arith) (λ i a b. quiet i (omega arith)) none
+    ∙ ap (λ t. climbing g n least (p - least) (tail_at g (deeper g n) t x symbols)) e
+
+-- behind an expression of no lower level climbing goes on at a level of binary operators
+arrive : (g : Dialect) (n least l k p : ℕ) (x : Term) (symbols : List Symbol) → least ≤ p → p ≤ l → 2 ≤ p → p ≤ 7 → ((i : ℕ) → p < i → Quiet g i symbols) → begins_postfix g symbols ≡ false
+    → resume g n least l k x symbols ≡ climbing g n least (p - least) (after_chain g n (if l == p then k else 0) p x symbols)
+arrive g n least l k p x symbols low le from to quiet none = elim (eqb_tells l p) as (λ _. resume g n least l k x symbols ≡ climbing g n least (p - least) (after_chain g n (if l == p then k else 0) p x symbols)) [
+  | inl same ↦ resume-chain g n least l k x symbols (let s = same.1 in omega arith)
+      ∙ ap (λ l. climbing g n least (l - least) (after_chain g n k l x symbols)) same.1
+      ∙ sym (ap (λ b. climbing g n least (p - least) (after_chain g n (if b then k else 0) p x symbols)) same.0)
+  | inr other ↦ arrive_above g n least l k p x symbols low (let o = other.1 in omega arith) to quiet none
+      ∙ ap (climbing g n least (p - least)) (tail-chain g (deeper g n) p x symbols from)
+      ∙ sym (ap (λ b. climbing g n least (p - least) (after_chain g n (if b then k else 0) p x symbols)) other.0)
+]
+
+-- the right operand of a binary operator, where so much more may be opened
+right_back : (g : Dialect) (m d limit : ℕ) (op : BinaryOperator) (a b : Term) (marks : List Mark) (rest : List Symbol) → IsBack b → d + m ≡ limit → spells g (suc d) b marks → precedence op < level b → needs g rest ≤ precedence op
+    → operand_at g (deeper g m) (precedence op) op a (symbols_of marks ++ rest) ≡ cut limit marks rest (after_chain g m 1 (precedence op) (Operated op a b) rest)
+unfolding deeper
+right_back g zero d limit op a b marks rest back e is high need =
+    cut-none (begins_expr g) limit (suc d) marks rest (after_chain g 0 1 (precedence op) (Operated op a b) rest) (omega arith) (expr_begins g (suc d) b marks is)
+right_back g (suc m) d limit op a b marks rest back e is high need =
+    cut-end (level_at g (deeper g m) (suc (precedence op))) (λ y. chain_at g (deeper g m) (precedence op) (Operated op a y.0) y.1) limit marks rest (b, rest) (after_chain g m 0 (precedence op) (Operated op a b) rest)
+    (let p = precedence-bounds op in let p1 = p.1 in let p0 = p.0 in
+        let s : needs g rest ≤ stop (suc (precedence op)) = (let t = stop-above (precedence op) (suc (precedence op)) (omega arith) p0 in omega arith) in
+        whole_back b back g m (suc d) limit (suc (precedence op)) marks rest (omega arith) is (omega arith) (omega arith) s) refl
+
+operated_back : (op : BinaryOperator) (a b : Term) → IsBack a → IsBack b → IsBack (Operated op a b)
+operated_back op a b back_a back_b g n d limit least marks rest e is low high need =
+    let j = is.1.1 in let k = j.second in let p = precedence op in
+    let bounds = precedence-bounds op in let p0 = bounds.0 in let p1 = bounds.1 in
+    let le : p ≤ level a = nat_le-is p (level a) is.0 in
+    let lt : p < level b = nat_lt-is p (level b) is.1.0 in
+    let s = symbol.Sign k.first.0 (binary_sign op) in
+    let behind = s ∷ (symbols_of k.back ++ rest) in
+    let depth = d + links_at p a in
+    let needed : needs g behind ≡ p = needs-binary g op k.first.0 (symbols_of k.back ++ rest) in
+    cut-joined (level_at g (deeper g n) least) limit marks j.front (at_depth depth s ∷ k.back) rest (resume g n least p (suc (links_at p a)) (Operated op a b) rest)
+    (sign_parts depth (binary_sign op) _ marks j.front j.back j.parts k)
+    (back_a g n d limit least j.front behind e j.first low (omega arith) (omega arith)
+        ∙ ap (cut limit j.front behind)
+        (arrive g n least (level a) (links a) p a behind high le p0 p1 (λ i above. quiet g i behind (let t = stop-above p i above p0 in omega arith)) (no_postfix g behind (omega arith))
+            ∙ ap (climbing g n least (p - least)) (after_chain-step g n (links_at p a) limit depth op k.first.0 k.back rest a (Operated op a b) (omega arith) (λ m f. right_back g m depth limit op a b k.back rest back_b (omega arith) k.second lt need))
+            ∙ cut-bind limit (at_depth depth s ∷ k.back) rest (after_chain g n (suc (links_at p a)) p (Operated op a b) rest) (λ y. climb_at g (deeper g n) least (p - least) y.0 y.1)
+            ∙ ap (cut limit (at_depth depth s ∷ k.back) rest) (sym (resume-chain g n least p (suc (links_at p a)) (Operated op a b) rest (omega arith)))))

@@ -232,6 +232,12 @@ stop-mono (suc (suc l)) zero h = absurd (omega arith)
 stop-mono (suc (suc l)) (suc zero) h = absurd (omega arith)
 stop-mono (suc (suc l)) (suc (suc k)) h = omega arith
 
+-- above a level of binary operators
+pub stop-above : (p i : ℕ) → p < i → 2 ≤ p → p ≤ stop i
+stop-above p zero h k = absurd (omega arith)
+stop-above p (suc zero) h k = absurd (omega arith)
+stop-above p (suc (suc i)) h k = omega arith
+
 needs_8 : (b c : Bool) (m : ℕ) → (if b then 9 else (if c then 10 else m)) ≤ 8 → m ≤ 7 → (if b then 9 else (if c then 10 else m)) ≤ 7
 needs_8 true c m h k = absurd (omega arith)
 needs_8 false true m h k = absurd (omega arith)
