@@ -30,7 +30,7 @@ use Rattle.kt_grammar.specs.Cursor.{◌>>=◌, Outcome, begins_sign, behind, nam
 use Rattle.kt_grammar.specs.Reading.{Readers, begins_base, begins_expr, begins_postfix, type_at, between_at, deep, deep_level, more_at, index_at, stepped_at, postfix_at, arguments_at, named_at, old_symbol_at, transform_at, rule_at, primary_at, parenthesis_at, prefixed_at, unary_at, assign_here, chain_at, choice_at, assignment_at, tail_at, climb_at, level_at, deeper, expr_at}
 use Rattle.kt_grammar.specs.Laws.{Begins, needs, ExprIsReadBack}
 use Rattle.kt_grammar.specs.Cut.{cut}
-use Rattle.kt_grammar.specs.CutLaws.{cut-bind, cut-joined, cut-first, cut-token, cut-then, cut-end, cut-none, begins-append, begins-weaker, begins-at, left_length}
+use Rattle.kt_grammar.specs.CutLaws.{cut-bind, cut-kept, cut-joined, cut-first, cut-token, cut-then, cut-end, cut-none, begins-append, begins-weaker, begins-at, left_length}
 use Rattle.kt_grammar.specs.BackLaws.{sign-back, name-back, type-cut, type-begins, listed-last, listed-more}
 use Rattle.kt_grammar.proofs.Beginnings.{expr_begins}
 use Rattle.kt_grammar.proofs.Fronts.{Quiet, quiet, question-quiet, stop, stop-le, stop-mono, stop-above, needs_7, needs-postfix, no_call, no_postfix, nothing_of_base, nothing_closed, needs-binary, needs-assign, needs-question, needs-colon, needs-comma, needs-close, needs-bracket, prefix_of-sign, prefix_sign-closed, assign_of-sign, precedence-bounds, binary_here-low, binary_here-high}
@@ -393,3 +393,180 @@ operated_back op a b back_a back_b g n d limit least marks rest e is low high ne
             ∙ ap (climbing g n least (p - least)) (after_chain-step g n (links_at p a) limit depth op k.first.0 k.back rest a (Operated op a b) (omega arith) (λ m f. right_back g m depth limit op a b k.back rest back_b (omega arith) k.second lt need))
             ∙ cut-bind limit (at_depth depth s ∷ k.back) rest (after_chain g n (suc (links_at p a)) p (Operated op a b) rest) (λ y. climb_at g (deeper g n) least (p - least) y.0 y.1)
             ∙ ap (cut limit (at_depth depth s ∷ k.back) rest) (sym (resume-chain g n least p (suc (links_at p a)) (Operated op a b) rest (omega arith)))))
+
+-- ---- choice and assignment
+
+-- an expression, an operator of a level below those of binary operators, and what comes then
+low_back : (a x : Term) (p : ℕ) → IsBack a → (g : Dialect) (n d limit least : ℕ) (s : Symbol) (marks front back : List Mark) (rest : List Symbol) → d + n ≡ limit → least ≤ p → p ≤ 1 → p < level a
+    → needs g (s ∷ (symbols_of back ++ rest)) ≤ level a → ((i : ℕ) → p < i → Quiet g i (s ∷ (symbols_of back ++ rest))) → needs g (s ∷ (symbols_of back ++ rest)) ≤ 8
+    → marks ≡ front ++ (at_depth d s ∷ back) → spells g d a front
+    → tail_at g (deeper g n) p a (s ∷ (symbols_of back ++ rest)) ≡ cut limit back rest (Ok (x, rest))
+    → level_at g (deeper g n) least (symbols_of marks ++ rest) ≡ cut limit marks rest (resume g n least p 0 x rest)
+low_back a x p back_a g n d limit least s marks front back rest e low few above need quiet none parts is read =
+    let behind = s ∷ (symbols_of back ++ rest) in
+    let m = at_depth d s ∷ back in
+    cut-joined (level_at g (deeper g n) least) limit marks front m rest (resume g n least p 0 x rest) parts
+    (back_a g n d limit least front behind e is (omega arith) (omega arith) need
+        ∙ ap (cut limit front behind)
+        (arrive_above g n least (level a) (links a) p a behind low above (omega arith) quiet (no_postfix g behind none)
+            ∙ ap (climbing g n least (p - least)) (read ∙ sym (cut-kept limit (at_depth d s) back rest (Ok (x, rest)) (omega arith)))
+            ∙ cut-bind limit m rest (Ok (x, rest)) (λ y. climb_at g (deeper g n) least (p - least) y.0 y.1)
+            ∙ ap (λ o. cut limit m rest (climbing g n least (p - least) o)) (sym (after_chain-none g n 0 p x rest (binary_here-low p rest few)))
+            ∙ ap (cut limit m rest) (sym (resume-chain g n least p 0 x rest (omega arith)))))
+
+chosen_back : (c a b : Term) → IsBack c → IsBack a → IsBack b → IsBack (Chosen c a b)
+unfolding tail_at choice_at begins_sign
+chosen_back c a b back_c back_a back_b g n d limit least marks rest e is low high need =
+    let j = is.1.1 in let k = j.second in let l = k.second in let m = l.second in
+    let condition : 2 ≤ level c = nat_le-is 2 (level c) is.0 in
+    let other : 1 ≤ level b = nat_le-is 1 (level b) is.1.0 in
+    let needed : needs g (symbol.Sign k.first.0 signs.Question ∷ (symbols_of k.back ++ rest)) ≡ 2 = needs-question g k.first.0 (symbols_of k.back ++ rest) in
+    let colon : needs g (symbols_of l.back ++ rest) ≡ 0 =
+    ap (λ b. needs g (symbols_of b ++ rest)) (m.parts ∙ ap (λ f. f ++ m.back) m.first.1) ∙ needs-colon g m.first.0 (symbols_of m.back ++ rest) in
+    low_back c (Chosen c a b) 1 back_c g n d limit least (symbol.Sign k.first.0 signs.Question) marks j.front k.back rest e high (omega arith) (omega arith) (omega arith)
+    (λ i above. question-quiet g i k.first.0 (symbols_of k.back ++ rest) (omega arith)) (omega arith) (sign_parts d signs.Question _ marks j.front j.back j.parts k) j.first
+    (cut-then (deep_level g (deeper g n) 0) (λ a. behind signs.Colon a.1 >>= λ rest. deep_level g (deeper g n) 1 rest >>= λ b. Ok (Chosen c a.0 b.0, b.1)) limit k.back l.front l.back rest (a, symbols_of l.back ++ rest) (Ok (Chosen c a b, rest)) l.parts
+        (deep_back a back_a g n d limit 0 l.front (symbols_of l.back ++ rest) e l.first (omega arith) (omega arith) (omega arith))
+        (cut-then (behind signs.Colon) (λ rest. deep_level g (deeper g n) 1 rest >>= λ b. Ok (Chosen c a b.0, b.1)) limit l.back m.front m.back rest (symbols_of m.back ++ rest) (Ok (Chosen c a b, rest)) m.parts
+            (sign-back limit d signs.Colon m.front (symbols_of m.back ++ rest) m.first (omega arith))
+            (cut-end (deep_level g (deeper g n) 1) (λ b. Ok (Chosen c a b.0, b.1)) limit m.back rest (b, rest) (Ok (Chosen c a b, rest)) (deep_back b back_b g n d limit 1 m.back rest e m.second (omega arith) other need) refl)))
+
+assignment-step : (r : Option Readers) (op : AssignOperator) (a : Term) (at : ℕ) (rest : List Symbol)
+    → tail_at C r 0 a (symbol.Sign at (assign_sign op) ∷ rest) ≡ (deep_level C r 0 rest >>= λ y. Ok (Assigned op a y.0, y.1))
+unfolding tail_at assignment_at assign_here
+assignment-step r op a at rest = rw (assign_of-sign C op refl, assignment_at) refl
+
+assigned_back : (op : AssignOperator) (a b : Term) → IsBack a → IsBack b → IsBack (Assigned op a b)
+assigned_back op a b back_a back_b Rules n d limit least marks rest e is low high need = let c = is.0 in absurd cc
+assigned_back op a b back_a back_b C n d limit least marks rest e is low high need =
+    let j = is.1.1 in let k = j.second in
+    let left : 1 ≤ level a = nat_le-is 1 (level a) is.1.0 in
+    let behind = symbol.Sign k.first.0 (assign_sign op) ∷ (symbols_of k.back ++ rest) in
+    let needed : needs C behind ≡ 1 = needs-assign C op k.first.0 (symbols_of k.back ++ rest) refl in
+    low_back a (Assigned op a b) 0 back_a C n d limit least (symbol.Sign k.first.0 (assign_sign op)) marks j.front k.back rest e high (omega arith) left (omega arith)
+    (λ i above. quiet C i behind (let t : stop 1 ≤ stop i = stop-mono 1 i above in omega arith)) (omega arith) (sign_parts d (assign_sign op) _ marks j.front j.back j.parts k) j.first
+    (assignment-step (deeper C n) op a k.first.0 (symbols_of k.back ++ rest)
+        ∙ cut-end (deep_level C (deeper C n) 0) (λ y. Ok (Assigned op a y.0, y.1)) limit k.back rest (b, rest) (Ok (Assigned op a b, rest)) (deep_back b back_b C n d limit 0 k.back rest e k.second (omega arith) (omega arith) need) refl)
+
+-- ---- calls
+
+-- arguments as a list
+abbrev list_of : Terms → List Term
+list_of Nothing = []
+list_of (More a rest) = a ∷ list_of rest
+
+terms_of-list : (args : Terms) → terms_of (list_of args) ≡ args
+terms_of-list Nothing = refl
+terms_of-list (More a rest) = ap (More a) (terms_of-list rest)
+
+-- each argument is read back
+abbrev pub AreBack : Terms → Type 0
+AreBack Nothing = Unit {0}
+AreBack (More a rest) = IsBack a × AreBack rest
+
+arguments_begin : (g : Dialect) (d : ℕ) (a : Term) (more : Terms) (marks : List Mark) → arguments g d (More a more) marks → Begins (λ s. begins_expr g s ≡ true) d marks
+arguments_begin g d a Nothing marks is = expr_begins g d a marks is
+arguments_begin g d a (More b more) marks is = begins-append (λ s. begins_expr g s ≡ true) d marks is.front is.back is.parts (expr_begins g d a is.front is.first)
+
+-- behind arguments
+record Follows (g : Dialect) (rest : List Symbol) : Type 0 where
+  need : needs g rest ≡ 0
+  no_comma : begins_sign signs.Comma rest ≡ false
+  some : 1 ≤ length rest
+
+listed_back : (more : Terms) (a : Term) → IsBack a → AreBack more → (g : Dialect) (n d limit count : ℕ) (done : List Term) (marks : List Mark) (rest : List Symbol) → d + n ≡ limit → arguments g d (More a more) marks → Follows g rest
+    → length (symbols_of marks ++ rest) ≤ count
+    → listed_at (level_at g (deeper g n) 0) count done (symbols_of marks ++ rest) ≡ cut limit marks rest (Ok (done ++ list_of (More a more), rest))
+listed_back more a back_a all g n d limit zero done marks rest e is follows enough = let l = left_length marks rest in let s = follows.some in absurd (omega arith)
+listed_back Nothing a back_a all g n d limit (suc count) done marks rest e is follows enough =
+    let need = follows.need in
+    listed-last (level_at g (deeper g n) 0) count done limit marks rest a follows.no_comma (whole_back a back_a g n d limit 0 marks rest e is (omega arith) (omega arith) (omega arith))
+listed_back (More b more) a back_a all g n d limit (suc count) done marks rest e is follows enough =
+    let j = is.second in
+    let back = symbols_of (j.front ++ j.back) ++ rest in
+    let parts : marks ≡ is.front ++ (j.front ++ j.back) = is.parts ∙ ap (λ b. is.front ++ b) j.parts in
+    let comma : needs g back ≡ 0 = ap (λ c. needs g (symbols_of (c ++ j.back) ++ rest)) j.first.1 ∙ needs-comma g j.first.0 (symbols_of j.back ++ rest) in
+    let shorter : length (symbols_of j.back ++ rest) ≤ count =
+    (let l0 = left_length marks rest in let l1 = left_length j.back rest in
+        let l2 : length marks ≡ length is.front + length (j.front ++ j.back) = ap length parts ∙ length-append is.front (j.front ++ j.back) in
+        let l3 : length (j.front ++ j.back) ≡ suc (length j.back) = ap (λ c. length (c ++ j.back)) j.first.1 in omega arith) in
+    listed-more (level_at g (deeper g n) 0) count done limit d marks is.front j.front j.back rest a (Ok (done ++ list_of (More a (More b more)), rest)) parts j.first (omega arith)
+    (whole_back a back_a g n d limit 0 is.front back e is.first (omega arith) (omega arith) (omega arith))
+    (listed_back more b all.0 all.1 g n d limit count (done ++ a ∷ []) j.back rest e j.second follows shorter
+        ∙ ap (λ l. cut limit j.back rest (Ok (l, rest))) (append_assoc done (a ∷ []) (list_of (More b more))))
+
+deep_listed : (more : Terms) (a : Term) → IsBack a → AreBack more → (g : Dialect) (n d limit : ℕ) (marks : List Mark) (rest : List Symbol) → d + n ≡ limit → arguments g (suc d) (More a more) marks → Follows g rest
+    → deep (deeper g n) (begins_expr g) (λ r. listed_at (r.level 0) (length (symbols_of marks ++ rest)) []) (symbols_of marks ++ rest) ≡ cut limit marks rest (Ok (list_of (More a more), rest))
+unfolding deeper
+deep_listed more a back_a all g zero d limit marks rest e is follows =
+    cut-none (begins_expr g) limit (suc d) marks rest (Ok (list_of (More a more), rest)) (omega arith) (arguments_begin g (suc d) a more marks is)
+deep_listed more a back_a all g (suc n) d limit marks rest e is follows =
+    listed_back more a back_a all g n (suc d) limit (length (symbols_of marks ++ rest)) [] marks rest (omega arith) is follows (omega arith)
+
+close_follows : (g : Dialect) (d : ℕ) (marks : List Mark) (rest : List Symbol) → sign d signs.CloseParenthesis marks → Follows g (symbols_of marks ++ rest)
+unfolding begins_sign
+close_follows g d marks rest is =
+    subst (λ m. Follows g (symbols_of m ++ rest)) (sym is.1) (record { need = needs-close g is.0 rest; no_comma = refl; some = omega arith })
+
+-- arguments and their closing parenthesis
+arguments_back : (args : Terms) → AreBack args → (g : Dialect) (n d limit : ℕ) (marks front close : List Mark) (rest : List Symbol) → d + n ≡ limit → marks ≡ front ++ close → arguments g (suc d) args front → sign d signs.CloseParenthesis close
+    → arguments_at g (deeper g n) (symbols_of marks ++ rest) ≡ cut limit marks rest (Ok (list_of args, rest))
+unfolding arguments_at begins_sign
+arguments_back Nothing all g n d limit marks front close rest e parts is closes =
+    cut-token (arguments_at g (deeper g n)) limit d (symbol.Sign closes.0 signs.CloseParenthesis) marks rest (Ok ([], rest)) (parts ∙ ap (λ f. f ++ close) is ∙ closes.1) (omega arith) refl
+arguments_back (More a more) all g n d limit marks front close rest e parts is closes =
+    let open_still : begins_sign signs.CloseParenthesis (symbols_of marks ++ rest) ≡ false =
+    nothing_closed g (symbols_of marks ++ rest)
+    (begins-at (λ s. begins_expr g s ≡ true) (suc d) marks rest (begins-append (λ s. begins_expr g s ≡ true) (suc d) marks front close parts (arguments_begin g (suc d) a more front is))) in
+    rw (open_still, arguments_at)
+    (cut-then (λ s. deep (deeper g n) (begins_expr g) (λ r. listed_at (r.level 0) (length s) []) s) (λ args. behind signs.CloseParenthesis args.1 >>= λ rest. Ok (args.0, rest)) limit marks front close rest
+        (list_of (More a more), symbols_of close ++ rest) (Ok (list_of (More a more), rest)) parts
+        (deep_listed more a all.0 all.1 g n d limit front (symbols_of close ++ rest) e is (close_follows g d close rest closes))
+        (cut-end (behind signs.CloseParenthesis) (λ rest. Ok (list_of (More a more), rest)) limit close rest rest (Ok (list_of (More a more), rest)) (sign-back limit d signs.CloseParenthesis close rest closes (omega arith)) refl))
+
+called_back : (name : Name) (args : Terms) → AreBack args → IsBack (Called name args)
+unfolding unary_at primary_at named_at begins_sign
+called_back name args all Rules n d limit least marks rest e is low high need = let c = is.0 in absurd cc
+called_back name args all C n d limit least marks rest e is low high need =
+    let j = is.1 in let k = j.second in let l = k.second in
+    from_postfix (Called name args) C n limit least marks rest (omega arith)
+    (cut-first (unary_at C (deeper C n)) limit d (symbol.Name name.at name.word) marks j.front j.back rest (after_postfix C n 0 (Called name args) rest) j.parts j.first (omega arith)
+        (cut-first (λ s. unary_at C (deeper C n) (symbol.Name name.at name.word ∷ s)) limit d (symbol.Sign k.first.0 signs.OpenParenthesis) j.back k.front k.back rest (after_postfix C n 0 (Called name args) rest) k.parts k.first.1 (omega arith)
+            (cut-end (λ s. arguments_at C (deeper C n) s >>= λ args. Ok (Called name (terms_of args.0), args.1)) (λ x. postfix_at C (deeper C n) x.0 x.1) limit k.back rest (Called name args, rest) (after_postfix C n 0 (Called name args) rest)
+                (cut-end (arguments_at C (deeper C n)) (λ args. Ok (Called name (terms_of args.0), args.1)) limit k.back rest (list_of args, rest) (Ok (Called name args, rest))
+                    (arguments_back args all C n d limit k.back l.front l.back rest e l.parts l.first l.second) (ap (λ t. Ok (Called name t, rest)) (terms_of-list args))) refl)))
+
+-- ---- every expression
+
+mutual
+  pub back : (x : Term) → IsBack x
+  back (Constant at n) = constant_back at n
+  back (Character at b) = character_back at b
+  back (Text at bytes) = text_back at bytes
+  back (Null at) = null_back at
+  back (Eof at) = eof_back at
+  back (Named n) = named_back n
+  back (Called n args) = called_back n args (all_back args)
+  back (Parenthesised at a) = parenthesised_back at a (back a)
+  back (SizeOf at type) = size_back at type
+  back (RuleValue at word) = value_back at word
+  back (OldSymbol at n) = old_symbol_back at n
+  back (Transformed at a) = transformed_back at a (back a)
+  back (Element a i) = element_back a i (back a) (back i)
+  back (Member a f) = member_back a f (back a)
+  back (Pointed a f) = pointed_back a f (back a)
+  back (Stepped a op) = stepped_back a op (back a)
+  back (Prefixed at op a) = prefixed_back at op a (back a)
+  back (Converted at type a) = converted_back at type a (back a)
+  back (Operated op a b) = operated_back op a b (back a) (back b)
+  back (Chosen c a b) = chosen_back c a b (back c) (back a) (back b)
+  back (Assigned op a b) = assigned_back op a b (back a) (back b)
+
+  all_back : (args : Terms) → AreBack args
+  all_back Nothing = tt
+  all_back (More a rest) = (back a, all_back rest)
+
+-- an expression that is spelled is read back, unless a token of it is too deep
+pub expr_is_read_back : ExprIsReadBack
+unfolding expr_at
+expr_is_read_back g n d x marks rest is need = whole_back x (back x) g n d (d + n) 0 marks rest refl is (omega arith) (omega arith) (omega arith)
