@@ -31,9 +31,9 @@ use Rattle.kt_grammar.specs.Reading.{Readers, begins_base, begins_expr, begins_p
 use Rattle.kt_grammar.specs.Laws.{Begins, needs, ExprIsReadBack}
 use Rattle.kt_grammar.specs.Cut.{cut}
 use Rattle.kt_grammar.specs.CutLaws.{cut-bind, cut-kept, cut-joined, cut-first, cut-token, cut-then, cut-end, cut-none, begins-append, begins-weaker, begins-at, left_length}
-use Rattle.kt_grammar.specs.BackLaws.{sign-back, name-back, type-cut, type-begins, listed-last, listed-more}
+use Rattle.kt_grammar.specs.BackLaws.{closes, needs-closing, sign-back, name-back, type-cut, type-begins, listed-last, listed-more}
 use Rattle.kt_grammar.proofs.Beginnings.{expr_begins}
-use Rattle.kt_grammar.proofs.Fronts.{Quiet, quiet, question-quiet, stop, stop-le, stop-mono, stop-above, needs_7, needs-postfix, no_call, no_postfix, nothing_of_base, nothing_closed, needs-binary, needs-assign, needs-question, needs-colon, needs-comma, needs-close, needs-bracket, prefix_of-sign, prefix_sign-closed, assign_of-sign, precedence-bounds, binary_here-low, binary_here-high}
+use Rattle.kt_grammar.proofs.Fronts.{Quiet, quiet, question-quiet, stop, stop-le, stop-mono, stop-above, needs_7, needs-postfix, no_call, no_postfix, nothing_of_base, nothing_closed, needs-binary, needs-assign, needs-question, prefix_of-sign, prefix_sign-closed, assign_of-sign, precedence-bounds, binary_here-low, binary_here-high}
 use Rattle.kt_grammar.proofs.Resuming.{after_postfix, after_postfix-step, after_chain, after_chain-none, after_chain-step, operand_at, climbing, resume, resume-postfix, resume-chain, resume-quiet}
 
 -- a token at its depth
@@ -144,7 +144,7 @@ value_back at word C n d limit least marks rest e is low high need = let c = is.
 value_back at word Rules n d limit least marks rest e is low high need =
     from_postfix (RuleValue at word) Rules n limit least marks rest (omega arith)
     (cut-token (unary_at Rules (deeper Rules n)) limit d (symbol.RuleWord at word) marks rest (after_postfix Rules n 0 (RuleValue at word) rest) is.1.1 (omega arith)
-        (ap (λ a. a >>= λ x. postfix_at Rules (deeper Rules n) x.0 x.1) (value-at (deeper Rules n) at word rest is.1.0)))
+    (ap (λ a. a >>= λ x. postfix_at Rules (deeper Rules n) x.0 x.1) (value-at (deeper Rules n) at word rest is.1.0)))
 
 named-at : (g : Dialect) (r : Option Readers) (n : Name) (symbols : List Symbol) → (is_c g && begins_sign signs.OpenParenthesis symbols) ≡ false → named_at g r n symbols ≡ Ok (Named n, symbols)
 unfolding named_at
@@ -155,7 +155,7 @@ unfolding unary_at primary_at
 named_back name g n d limit least marks rest e is low high need =
     from_postfix (Named name) g n limit least marks rest (omega arith)
     (cut-token (unary_at g (deeper g n)) limit d (symbol.Name name.at name.word) marks rest (after_postfix g n 0 (Named name) rest) is (omega arith)
-        (ap (λ a. a >>= λ x. postfix_at g (deeper g n) x.0 x.1) (named-at g (deeper g n) name rest (no_call g rest need))))
+    (ap (λ a. a >>= λ x. postfix_at g (deeper g n) x.0 x.1) (named-at g (deeper g n) name rest (no_call g rest need))))
 
 -- ---- primary expressions in parentheses
 
@@ -169,13 +169,13 @@ last_sign_parts d s marks front back parts j = parts ∙ ap (λ b. front ++ b) j
 
 -- an expression, a closing sign, and what comes then
 closed_back : {B : Type 0} (x : Term) → IsBack x → (g : Dialect) (n d limit e : ℕ) (close : Sign) (marks front back : List Mark) (rest : List Symbol) (next : Term → List Symbol → Result B Fault) (answer : Result B Fault)
-    → d + n ≡ limit → e ≤ limit → ((at : ℕ) (rest : List Symbol) → needs g (symbol.Sign at close ∷ rest) ≡ 0) → marks ≡ front ++ back → spells g (suc d) x front → sign e close back → next x rest ≡ answer
+    → d + n ≡ limit → e ≤ limit → closes close ≡ true → marks ≡ front ++ back → spells g (suc d) x front → sign e close back → next x rest ≡ answer
     → (deep_level g (deeper g n) 0 (symbols_of marks ++ rest) >>= λ a. behind close a.1 >>= λ rest. next a.0 rest) ≡ cut limit marks rest answer
-closed_back x back g n d limit e close marks front last rest next answer sum low need parts is closes after =
-    let follows : needs g (symbols_of last ++ rest) ≡ 0 = ap (λ m. needs g (symbols_of m ++ rest)) closes.1 ∙ need closes.0 rest in
+closed_back x back g n d limit e close marks front last rest next answer sum low closing parts is at_end after =
+    let follows : needs g (symbols_of last ++ rest) ≡ 0 = ap (λ m. needs g (symbols_of m ++ rest)) at_end.1 ∙ needs-closing g at_end.0 close rest closing in
     cut-then (deep_level g (deeper g n) 0) (λ a. behind close a.1 >>= λ rest. next a.0 rest) limit marks front last rest (x, symbols_of last ++ rest) answer parts
     (deep_back x back g n d limit 0 front (symbols_of last ++ rest) sum is (omega arith) (omega arith) (omega arith))
-    (cut-end (behind close) (next x) limit last rest rest answer (sign-back limit e close last rest closes low) after)
+    (cut-end (behind close) (next x) limit last rest rest answer (sign-back limit e close last rest at_end low) after)
 
 parenthesised_back : (at : ℕ) (a : Term) → IsBack a → IsBack (Parenthesised at a)
 unfolding unary_at parenthesis_at
@@ -186,18 +186,18 @@ parenthesised_back at a back g n d limit least marks rest e is low high need =
     (begins-at (λ s. begins_expr g s ≡ true) (suc d) is.back rest (begins-append (λ s. begins_expr g s ≡ true) (suc d) is.back inner.front inner.back inner.parts (expr_begins g (suc d) a inner.front inner.first))) in
     from_postfix (Parenthesised at a) g n limit least marks rest (omega arith)
     (cut-first (unary_at g (deeper g n)) limit d (symbol.Sign at signs.OpenParenthesis) marks is.front is.back rest (after_postfix g n 0 (Parenthesised at a) rest) is.parts is.first (omega arith)
-        (rw (nothing) (closed_back a back g n d limit d signs.CloseParenthesis is.back inner.front inner.back rest (λ a rest. postfix_at g (deeper g n) (Parenthesised at a) rest) (after_postfix g n 0 (Parenthesised at a) rest) e (omega arith) (needs-close g) inner.parts inner.first inner.second refl)))
+    (rw (nothing) (closed_back a back g n d limit d signs.CloseParenthesis is.back inner.front inner.back rest (λ a rest. postfix_at g (deeper g n) (Parenthesised at a) rest) (after_postfix g n 0 (Parenthesised at a) rest) e (omega arith) refl inner.parts inner.first inner.second refl)))
 
 -- a type name, a closing parenthesis, and what comes then
 type_closed : {B : Type 0} (limit d : ℕ) (t : TypeName) (marks front close back : List Mark) (rest : List Symbol) (next : TypeName → List Symbol → Result B Fault) (answer : Result B Fault)
     → d ≤ limit → marks ≡ front ++ (close ++ back) → spells_type d t front → sign d signs.CloseParenthesis close → next t (symbols_of back ++ rest) ≡ cut limit back rest answer
     → (type_at (symbols_of marks ++ rest) >>= λ t. behind signs.CloseParenthesis t.1 >>= λ rest. next t.0 rest) ≡ cut limit marks rest answer
 unfolding begins_sign
-type_closed limit d t marks front close back rest next answer low parts is closes after =
-    let no_star : begins_sign signs.Star (symbols_of (close ++ back) ++ rest) ≡ false = ap (λ m. begins_sign signs.Star (symbols_of (m ++ back) ++ rest)) closes.1 in
+type_closed limit d t marks front close back rest next answer low parts is ends after =
+    let no_star : begins_sign signs.Star (symbols_of (close ++ back) ++ rest) ≡ false = ap (λ m. begins_sign signs.Star (symbols_of (m ++ back) ++ rest)) ends.1 in
     cut-then type_at (λ t. behind signs.CloseParenthesis t.1 >>= λ rest. next t.0 rest) limit marks front (close ++ back) rest (t, symbols_of (close ++ back) ++ rest) answer parts
     (type-cut limit d t front (symbols_of (close ++ back) ++ rest) is no_star low)
-    (cut-then (behind signs.CloseParenthesis) (next t) limit (close ++ back) close back rest (symbols_of back ++ rest) answer refl (sign-back limit d signs.CloseParenthesis close (symbols_of back ++ rest) closes low) after)
+    (cut-then (behind signs.CloseParenthesis) (next t) limit (close ++ back) close back rest (symbols_of back ++ rest) answer refl (sign-back limit d signs.CloseParenthesis close (symbols_of back ++ rest) ends low) after)
 
 between_back : (limit d : ℕ) (t : TypeName) (marks : List Mark) (rest : List Symbol) → d ≤ limit → between d (spells_type d t) marks → between_at (symbols_of marks ++ rest) ≡ cut limit marks rest (Ok (t, rest))
 between_back limit d t marks rest low is =
@@ -205,7 +205,7 @@ between_back limit d t marks rest low is =
     cut-then (behind signs.OpenParenthesis) (λ inner. type_at inner >>= λ t. behind signs.CloseParenthesis t.1 >>= λ rest. Ok (t.0, rest)) limit marks is.front is.back rest (symbols_of is.back ++ rest) (Ok (t, rest)) is.parts
     (sign-back limit d signs.OpenParenthesis is.front (symbols_of is.back ++ rest) is.first low)
     (type_closed limit d t is.back inner.front (at_depth d (symbol.Sign inner.second.0 signs.CloseParenthesis) ∷ []) [] rest (λ t rest. Ok (t, rest)) (Ok (t, rest)) low
-        (last_sign_parts d signs.CloseParenthesis is.back inner.front inner.back inner.parts inner.second) inner.first (inner.second.0, refl) refl)
+    (last_sign_parts d signs.CloseParenthesis is.back inner.front inner.back inner.parts inner.second) inner.first (inner.second.0, refl) refl)
 
 size_back : (at : ℕ) (type : TypeName) → IsBack (SizeOf at type)
 unfolding unary_at primary_at
@@ -213,8 +213,8 @@ size_back at type Rules n d limit least marks rest e is low high need = let c = 
 size_back at type C n d limit least marks rest e is low high need =
     from_postfix (SizeOf at type) C n limit least marks rest (omega arith)
     (cut-first (unary_at C (deeper C n)) limit d (symbol.Keyword at keywords.SizeOf) marks is.1.front is.1.back rest (after_postfix C n 0 (SizeOf at type) rest) is.1.parts is.1.first (omega arith)
-        (cut-end (λ s. between_at s >>= λ t. Ok (SizeOf at t.0, t.1)) (λ x. postfix_at C (deeper C n) x.0 x.1) limit is.1.back rest (SizeOf at type, rest) (after_postfix C n 0 (SizeOf at type) rest)
-            (cut-end between_at (λ t. Ok (SizeOf at t.0, t.1)) limit is.1.back rest (type, rest) (Ok (SizeOf at type, rest)) (between_back limit d type is.1.back rest (omega arith) is.1.second) refl) refl))
+    (cut-end (λ s. between_at s >>= λ t. Ok (SizeOf at t.0, t.1)) (λ x. postfix_at C (deeper C n) x.0 x.1) limit is.1.back rest (SizeOf at type, rest) (after_postfix C n 0 (SizeOf at type) rest)
+    (cut-end between_at (λ t. Ok (SizeOf at t.0, t.1)) limit is.1.back rest (type, rest) (Ok (SizeOf at type, rest)) (between_back limit d type is.1.back rest (omega arith) is.1.second) refl) refl))
 
 old_symbol_back : (at : ℕ) (name : Name) → IsBack (OldSymbol at name)
 unfolding unary_at primary_at rule_at old_symbol_at
@@ -223,12 +223,12 @@ old_symbol_back at name Rules n d limit least marks rest e is low high need =
     let j = is.1.second in let k = j.second in
     from_postfix (OldSymbol at name) Rules n limit least marks rest (omega arith)
     (cut-first (unary_at Rules (deeper Rules n)) limit d (symbol.RuleWord at rule.OldSymbol) marks is.1.front is.1.back rest (after_postfix Rules n 0 (OldSymbol at name) rest) is.1.parts is.1.first (omega arith)
-        (cut-end (old_symbol_at at) (λ x. postfix_at Rules (deeper Rules n) x.0 x.1) limit is.1.back rest (OldSymbol at name, rest) (after_postfix Rules n 0 (OldSymbol at name) rest)
-            (cut-then (behind signs.OpenParenthesis) (λ inner. name_at inner >>= λ n. behind signs.CloseParenthesis n.1 >>= λ rest. Ok (OldSymbol at n.0, rest)) limit is.1.back j.front j.back rest (symbols_of j.back ++ rest) (Ok (OldSymbol at name, rest)) j.parts
-                (sign-back limit d signs.OpenParenthesis j.front (symbols_of j.back ++ rest) j.first (omega arith))
-                (cut-then name_at (λ n. behind signs.CloseParenthesis n.1 >>= λ rest. Ok (OldSymbol at n.0, rest)) limit j.back k.front k.back rest (name, symbols_of k.back ++ rest) (Ok (OldSymbol at name, rest)) k.parts
-                    (name-back limit d name k.front (symbols_of k.back ++ rest) k.first (omega arith))
-                    (cut-end (behind signs.CloseParenthesis) (λ rest. Ok (OldSymbol at name, rest)) limit k.back rest rest (Ok (OldSymbol at name, rest)) (sign-back limit d signs.CloseParenthesis k.back rest k.second (omega arith)) refl))) refl))
+    (cut-end (old_symbol_at at) (λ x. postfix_at Rules (deeper Rules n) x.0 x.1) limit is.1.back rest (OldSymbol at name, rest) (after_postfix Rules n 0 (OldSymbol at name) rest)
+    (cut-then (behind signs.OpenParenthesis) (λ inner. name_at inner >>= λ n. behind signs.CloseParenthesis n.1 >>= λ rest. Ok (OldSymbol at n.0, rest)) limit is.1.back j.front j.back rest (symbols_of j.back ++ rest) (Ok (OldSymbol at name, rest)) j.parts
+    (sign-back limit d signs.OpenParenthesis j.front (symbols_of j.back ++ rest) j.first (omega arith))
+    (cut-then name_at (λ n. behind signs.CloseParenthesis n.1 >>= λ rest. Ok (OldSymbol at n.0, rest)) limit j.back k.front k.back rest (name, symbols_of k.back ++ rest) (Ok (OldSymbol at name, rest)) k.parts
+    (name-back limit d name k.front (symbols_of k.back ++ rest) k.first (omega arith))
+    (cut-end (behind signs.CloseParenthesis) (λ rest. Ok (OldSymbol at name, rest)) limit k.back rest rest (Ok (OldSymbol at name, rest)) (sign-back limit d signs.CloseParenthesis k.back rest k.second (omega arith)) refl))) refl))
 
 transformed_back : (at : ℕ) (a : Term) → IsBack a → IsBack (Transformed at a)
 unfolding unary_at primary_at rule_at transform_at
@@ -237,10 +237,10 @@ transformed_back at a back Rules n d limit least marks rest e is low high need =
     let j = is.1.second in let k = j.second in
     from_postfix (Transformed at a) Rules n limit least marks rest (omega arith)
     (cut-first (unary_at Rules (deeper Rules n)) limit d (symbol.RuleWord at rule.Transform) marks is.1.front is.1.back rest (after_postfix Rules n 0 (Transformed at a) rest) is.1.parts is.1.first (omega arith)
-        (cut-end (transform_at Rules (deeper Rules n) at) (λ x. postfix_at Rules (deeper Rules n) x.0 x.1) limit is.1.back rest (Transformed at a, rest) (after_postfix Rules n 0 (Transformed at a) rest)
-            (cut-then (behind signs.OpenParenthesis) (λ inner. deep_level Rules (deeper Rules n) 0 inner >>= λ a. behind signs.CloseParenthesis a.1 >>= λ rest. Ok (Transformed at a.0, rest)) limit is.1.back j.front j.back rest (symbols_of j.back ++ rest) (Ok (Transformed at a, rest)) j.parts
-                (sign-back limit d signs.OpenParenthesis j.front (symbols_of j.back ++ rest) j.first (omega arith))
-                (closed_back a back Rules n d limit d signs.CloseParenthesis j.back k.front k.back rest (λ a rest. Ok (Transformed at a, rest)) (Ok (Transformed at a, rest)) e (omega arith) (needs-close Rules) k.parts k.first k.second refl)) refl))
+    (cut-end (transform_at Rules (deeper Rules n) at) (λ x. postfix_at Rules (deeper Rules n) x.0 x.1) limit is.1.back rest (Transformed at a, rest) (after_postfix Rules n 0 (Transformed at a) rest)
+    (cut-then (behind signs.OpenParenthesis) (λ inner. deep_level Rules (deeper Rules n) 0 inner >>= λ a. behind signs.CloseParenthesis a.1 >>= λ rest. Ok (Transformed at a.0, rest)) limit is.1.back j.front j.back rest (symbols_of j.back ++ rest) (Ok (Transformed at a, rest)) j.parts
+    (sign-back limit d signs.OpenParenthesis j.front (symbols_of j.back ++ rest) j.first (omega arith))
+    (closed_back a back Rules n d limit d signs.CloseParenthesis j.back k.front k.back rest (λ a rest. Ok (Transformed at a, rest)) (Ok (Transformed at a, rest)) e (omega arith) refl k.parts k.first k.second refl)) refl))
 
 -- ---- prefix operators and casts
 
@@ -261,8 +261,8 @@ prefixed_back at op a back g n d limit least marks rest e is low high need =
     let lvl : 8 ≤ level a = nat_le-is 8 (level a) is.1.0 in
     from_unary (Prefixed at op a) g n limit least marks rest
     (cut-first (unary_at g (deeper g n)) limit d (symbol.Sign at (prefix_sign op)) marks j.front j.back rest (Ok (Prefixed at op a, rest)) j.parts j.first (omega arith)
-        (unary-prefix g (deeper g n) at op (symbols_of j.back ++ rest) is.0
-            ∙ cut-end (deep_level g (deeper g n) 8) (λ a. Ok (Prefixed at op a.0, a.1)) limit j.back rest (a, rest) (Ok (Prefixed at op a, rest)) (deep_back a back g n d limit 8 j.back rest e j.second (omega arith) lvl (needs_7 g rest need)) refl))
+    (unary-prefix g (deeper g n) at op (symbols_of j.back ++ rest) is.0
+    ∙ cut-end (deep_level g (deeper g n) 8) (λ a. Ok (Prefixed at op a.0, a.1)) limit j.back rest (a, rest) (Ok (Prefixed at op a, rest)) (deep_back a back g n d limit 8 j.back rest e j.second (omega arith) lvl (needs_7 g rest need)) refl))
 
 converted_back : (at : ℕ) (type : TypeName) (a : Term) → IsBack a → IsBack (Converted at type a)
 unfolding unary_at parenthesis_at
@@ -273,9 +273,9 @@ converted_back at type a back g n d limit least marks rest e is low high need =
     begins-at (λ s. begins_base s ≡ true) d j.back rest (begins-append (λ s. begins_base s ≡ true) d j.back k.front k.back k.parts (type-begins d type k.front k.first)) in
     from_unary (Converted at type a) g n limit least marks rest
     (cut-first (unary_at g (deeper g n)) limit d (symbol.Sign at signs.OpenParenthesis) marks j.front j.back rest (Ok (Converted at type a, rest)) j.parts j.first (omega arith)
-        (rw (based) (type_closed limit d type j.back k.front l.front l.back rest (λ t rest. deep_level g (deeper g n) 8 rest >>= λ a. Ok (Converted at t a.0, a.1)) (Ok (Converted at type a, rest)) (omega arith)
-            (k.parts ∙ ap (λ b. k.front ++ b) l.parts) k.first l.first
-            (cut-end (deep_level g (deeper g n) 8) (λ a. Ok (Converted at type a.0, a.1)) limit l.back rest (a, rest) (Ok (Converted at type a, rest)) (deep_back a back g n d limit 8 l.back rest e l.second (omega arith) lvl (needs_7 g rest need)) refl))))
+    (rw (based) (type_closed limit d type j.back k.front l.front l.back rest (λ t rest. deep_level g (deeper g n) 8 rest >>= λ a. Ok (Converted at t a.0, a.1)) (Ok (Converted at type a, rest)) (omega arith)
+    (k.parts ∙ ap (λ b. k.front ++ b) l.parts) k.first l.first
+    (cut-end (deep_level g (deeper g n) 8) (λ a. Ok (Converted at type a.0, a.1)) limit l.back rest (a, rest) (Ok (Converted at type a, rest)) (deep_back a back g n d limit 8 l.back rest e l.second (omega arith) lvl (needs_7 g rest need)) refl))))
 
 -- ---- postfix operators
 
@@ -287,10 +287,10 @@ chained_back : (a x : Term) → IsBack a → (g : Dialect) (n d limit least : �
 chained_back a x back_a g n d limit least s marks front back rest e high_a high_x more parts is begins read =
     from_postfix x g n limit least marks rest high_x
     (cut-joined (unary_at g (deeper g n)) limit marks front (at_depth (d + links a) s ∷ back) rest (after_postfix g n (links x) x rest) parts
-        (postfix_back a back_a g n d limit front (s ∷ (symbols_of back ++ rest)) e is high_a (begins (symbols_of back ++ rest))
-            ∙ ap (cut limit front (s ∷ (symbols_of back ++ rest)))
-            (after_postfix-step g n (links a) limit (d + links a) s back rest a x (omega arith) (begins (symbols_of back ++ rest)) (λ m f. read m (omega arith))
-                ∙ ap (λ k. cut limit (at_depth (d + links a) s ∷ back) rest (after_postfix g n k x rest)) (sym more))))
+    (postfix_back a back_a g n d limit front (s ∷ (symbols_of back ++ rest)) e is high_a (begins (symbols_of back ++ rest))
+    ∙ ap (cut limit front (s ∷ (symbols_of back ++ rest)))
+    (after_postfix-step g n (links a) limit (d + links a) s back rest a x (omega arith) (begins (symbols_of back ++ rest)) (λ m f. read m (omega arith))
+    ∙ ap (λ k. cut limit (at_depth (d + links a) s ∷ back) rest (after_postfix g n k x rest)) (sym more))))
 
 element_back : (a i : Term) → IsBack a → IsBack i → IsBack (Element a i)
 unfolding postfix_at index_at begins_postfix
@@ -298,7 +298,7 @@ element_back a i back_a back_i g n d limit least marks rest e is low high need =
     let j = is.1 in let k = j.second in let l = k.second in
     chained_back a (Element a i) back_a g n d limit least (symbol.Sign k.first.0 signs.OpenBracket) marks j.front k.back rest e (nat_le-is 9 (level a) is.0) (omega arith) refl
     (sign_parts (d + links a) signs.OpenBracket _ marks j.front j.back j.parts k) j.first (λ rest. refl)
-    (λ m f. closed_back i back_i g m (d + links a) limit (d + links a) signs.CloseBracket k.back l.front l.back rest (λ i rest. more_at g (deeper g m) (Element a i) rest) (more_at g (deeper g m) (Element a i) rest) f (omega arith) (needs-bracket g) l.parts l.first l.second refl)
+    (λ m f. closed_back i back_i g m (d + links a) limit (d + links a) signs.CloseBracket k.back l.front l.back rest (λ i rest. more_at g (deeper g m) (Element a i) rest) (more_at g (deeper g m) (Element a i) rest) f (omega arith) refl l.parts l.first l.second refl)
 
 member_back : (a : Term) (f : Name) → IsBack a → IsBack (Member a f)
 unfolding postfix_at begins_postfix
@@ -372,8 +372,8 @@ right_back g zero d limit op a b marks rest back e is high need =
 right_back g (suc m) d limit op a b marks rest back e is high need =
     cut-end (level_at g (deeper g m) (suc (precedence op))) (λ y. chain_at g (deeper g m) (precedence op) (Operated op a y.0) y.1) limit marks rest (b, rest) (after_chain g m 0 (precedence op) (Operated op a b) rest)
     (let p = precedence-bounds op in let p1 = p.1 in let p0 = p.0 in
-        let s : needs g rest ≤ stop (suc (precedence op)) = (let t = stop-above (precedence op) (suc (precedence op)) (omega arith) p0 in omega arith) in
-        whole_back b back g m (suc d) limit (suc (precedence op)) marks rest (omega arith) is (omega arith) (omega arith) s) refl
+    let s : needs g rest ≤ stop (suc (precedence op)) = (let t = stop-above (precedence op) (suc (precedence op)) (omega arith) p0 in omega arith) in
+    whole_back b back g m (suc d) limit (suc (precedence op)) marks rest (omega arith) is (omega arith) (omega arith) s) refl
 
 operated_back : (op : BinaryOperator) (a b : Term) → IsBack a → IsBack b → IsBack (Operated op a b)
 operated_back op a b back_a back_b g n d limit least marks rest e is low high need =
@@ -388,11 +388,11 @@ operated_back op a b back_a back_b g n d limit least marks rest e is low high ne
     cut-joined (level_at g (deeper g n) least) limit marks j.front (at_depth depth s ∷ k.back) rest (resume g n least p (suc (links_at p a)) (Operated op a b) rest)
     (sign_parts depth (binary_sign op) _ marks j.front j.back j.parts k)
     (back_a g n d limit least j.front behind e j.first low (omega arith) (omega arith)
-        ∙ ap (cut limit j.front behind)
-        (arrive g n least (level a) (links a) p a behind high le p0 p1 (λ i above. quiet g i behind (let t = stop-above p i above p0 in omega arith)) (no_postfix g behind (omega arith))
-            ∙ ap (climbing g n least (p - least)) (after_chain-step g n (links_at p a) limit depth op k.first.0 k.back rest a (Operated op a b) (omega arith) (λ m f. right_back g m depth limit op a b k.back rest back_b (omega arith) k.second lt need))
-            ∙ cut-bind limit (at_depth depth s ∷ k.back) rest (after_chain g n (suc (links_at p a)) p (Operated op a b) rest) (λ y. climb_at g (deeper g n) least (p - least) y.0 y.1)
-            ∙ ap (cut limit (at_depth depth s ∷ k.back) rest) (sym (resume-chain g n least p (suc (links_at p a)) (Operated op a b) rest (omega arith)))))
+    ∙ ap (cut limit j.front behind)
+    (arrive g n least (level a) (links a) p a behind high le p0 p1 (λ i above. quiet g i behind (let t = stop-above p i above p0 in omega arith)) (no_postfix g behind (omega arith))
+    ∙ ap (climbing g n least (p - least)) (after_chain-step g n (links_at p a) limit depth op k.first.0 k.back rest a (Operated op a b) (omega arith) (λ m f. right_back g m depth limit op a b k.back rest back_b (omega arith) k.second lt need))
+    ∙ cut-bind limit (at_depth depth s ∷ k.back) rest (after_chain g n (suc (links_at p a)) p (Operated op a b) rest) (λ y. climb_at g (deeper g n) least (p - least) y.0 y.1)
+    ∙ ap (cut limit (at_depth depth s ∷ k.back) rest) (sym (resume-chain g n least p (suc (links_at p a)) (Operated op a b) rest (omega arith)))))
 
 -- ---- choice and assignment
 
@@ -407,12 +407,12 @@ low_back a x p back_a g n d limit least s marks front back rest e low few above 
     let m = at_depth d s ∷ back in
     cut-joined (level_at g (deeper g n) least) limit marks front m rest (resume g n least p 0 x rest) parts
     (back_a g n d limit least front behind e is (omega arith) (omega arith) need
-        ∙ ap (cut limit front behind)
-        (arrive_above g n least (level a) (links a) p a behind low above (omega arith) quiet (no_postfix g behind none)
-            ∙ ap (climbing g n least (p - least)) (read ∙ sym (cut-kept limit (at_depth d s) back rest (Ok (x, rest)) (omega arith)))
-            ∙ cut-bind limit m rest (Ok (x, rest)) (λ y. climb_at g (deeper g n) least (p - least) y.0 y.1)
-            ∙ ap (λ o. cut limit m rest (climbing g n least (p - least) o)) (sym (after_chain-none g n 0 p x rest (binary_here-low p rest few)))
-            ∙ ap (cut limit m rest) (sym (resume-chain g n least p 0 x rest (omega arith)))))
+    ∙ ap (cut limit front behind)
+    (arrive_above g n least (level a) (links a) p a behind low above (omega arith) quiet (no_postfix g behind none)
+    ∙ ap (climbing g n least (p - least)) (read ∙ sym (cut-kept limit (at_depth d s) back rest (Ok (x, rest)) (omega arith)))
+    ∙ cut-bind limit m rest (Ok (x, rest)) (λ y. climb_at g (deeper g n) least (p - least) y.0 y.1)
+    ∙ ap (λ o. cut limit m rest (climbing g n least (p - least) o)) (sym (after_chain-none g n 0 p x rest (binary_here-low p rest few)))
+    ∙ ap (cut limit m rest) (sym (resume-chain g n least p 0 x rest (omega arith)))))
 
 chosen_back : (c a b : Term) → IsBack c → IsBack a → IsBack b → IsBack (Chosen c a b)
 unfolding tail_at choice_at begins_sign
@@ -422,14 +422,14 @@ chosen_back c a b back_c back_a back_b g n d limit least marks rest e is low hig
     let other : 1 ≤ level b = nat_le-is 1 (level b) is.1.0 in
     let needed : needs g (symbol.Sign k.first.0 signs.Question ∷ (symbols_of k.back ++ rest)) ≡ 2 = needs-question g k.first.0 (symbols_of k.back ++ rest) in
     let colon : needs g (symbols_of l.back ++ rest) ≡ 0 =
-    ap (λ b. needs g (symbols_of b ++ rest)) (m.parts ∙ ap (λ f. f ++ m.back) m.first.1) ∙ needs-colon g m.first.0 (symbols_of m.back ++ rest) in
+    ap (λ b. needs g (symbols_of b ++ rest)) (m.parts ∙ ap (λ f. f ++ m.back) m.first.1) ∙ needs-closing g m.first.0 signs.Colon (symbols_of m.back ++ rest) refl in
     low_back c (Chosen c a b) 1 back_c g n d limit least (symbol.Sign k.first.0 signs.Question) marks j.front k.back rest e high (omega arith) (omega arith) (omega arith)
     (λ i above. question-quiet g i k.first.0 (symbols_of k.back ++ rest) (omega arith)) (omega arith) (sign_parts d signs.Question _ marks j.front j.back j.parts k) j.first
     (cut-then (deep_level g (deeper g n) 0) (λ a. behind signs.Colon a.1 >>= λ rest. deep_level g (deeper g n) 1 rest >>= λ b. Ok (Chosen c a.0 b.0, b.1)) limit k.back l.front l.back rest (a, symbols_of l.back ++ rest) (Ok (Chosen c a b, rest)) l.parts
-        (deep_back a back_a g n d limit 0 l.front (symbols_of l.back ++ rest) e l.first (omega arith) (omega arith) (omega arith))
-        (cut-then (behind signs.Colon) (λ rest. deep_level g (deeper g n) 1 rest >>= λ b. Ok (Chosen c a b.0, b.1)) limit l.back m.front m.back rest (symbols_of m.back ++ rest) (Ok (Chosen c a b, rest)) m.parts
-            (sign-back limit d signs.Colon m.front (symbols_of m.back ++ rest) m.first (omega arith))
-            (cut-end (deep_level g (deeper g n) 1) (λ b. Ok (Chosen c a b.0, b.1)) limit m.back rest (b, rest) (Ok (Chosen c a b, rest)) (deep_back b back_b g n d limit 1 m.back rest e m.second (omega arith) other need) refl)))
+    (deep_back a back_a g n d limit 0 l.front (symbols_of l.back ++ rest) e l.first (omega arith) (omega arith) (omega arith))
+    (cut-then (behind signs.Colon) (λ rest. deep_level g (deeper g n) 1 rest >>= λ b. Ok (Chosen c a b.0, b.1)) limit l.back m.front m.back rest (symbols_of m.back ++ rest) (Ok (Chosen c a b, rest)) m.parts
+    (sign-back limit d signs.Colon m.front (symbols_of m.back ++ rest) m.first (omega arith))
+    (cut-end (deep_level g (deeper g n) 1) (λ b. Ok (Chosen c a b.0, b.1)) limit m.back rest (b, rest) (Ok (Chosen c a b, rest)) (deep_back b back_b g n d limit 1 m.back rest e m.second (omega arith) other need) refl)))
 
 assignment-step : (r : Option Readers) (op : AssignOperator) (a : Term) (at : ℕ) (rest : List Symbol)
     → tail_at C r 0 a (symbol.Sign at (assign_sign op) ∷ rest) ≡ (deep_level C r 0 rest >>= λ y. Ok (Assigned op a y.0, y.1))
@@ -446,7 +446,7 @@ assigned_back op a b back_a back_b C n d limit least marks rest e is low high ne
     low_back a (Assigned op a b) 0 back_a C n d limit least (symbol.Sign k.first.0 (assign_sign op)) marks j.front k.back rest e high (omega arith) left (omega arith)
     (λ i above. quiet C i behind (let t : stop 1 ≤ stop i = stop-mono 1 i above in omega arith)) (omega arith) (sign_parts d (assign_sign op) _ marks j.front j.back j.parts k) j.first
     (assignment-step (deeper C n) op a k.first.0 (symbols_of k.back ++ rest)
-        ∙ cut-end (deep_level C (deeper C n) 0) (λ y. Ok (Assigned op a y.0, y.1)) limit k.back rest (b, rest) (Ok (Assigned op a b, rest)) (deep_back b back_b C n d limit 0 k.back rest e k.second (omega arith) (omega arith) need) refl)
+    ∙ cut-end (deep_level C (deeper C n) 0) (λ y. Ok (Assigned op a y.0, y.1)) limit k.back rest (b, rest) (Ok (Assigned op a b, rest)) (deep_back b back_b C n d limit 0 k.back rest e k.second (omega arith) (omega arith) need) refl)
 
 -- ---- calls
 
@@ -485,15 +485,15 @@ listed_back (More b more) a back_a all g n d limit (suc count) done marks rest e
     let j = is.second in
     let back = symbols_of (j.front ++ j.back) ++ rest in
     let parts : marks ≡ is.front ++ (j.front ++ j.back) = is.parts ∙ ap (λ b. is.front ++ b) j.parts in
-    let comma : needs g back ≡ 0 = ap (λ c. needs g (symbols_of (c ++ j.back) ++ rest)) j.first.1 ∙ needs-comma g j.first.0 (symbols_of j.back ++ rest) in
+    let comma : needs g back ≡ 0 = ap (λ c. needs g (symbols_of (c ++ j.back) ++ rest)) j.first.1 ∙ needs-closing g j.first.0 signs.Comma (symbols_of j.back ++ rest) refl in
     let shorter : length (symbols_of j.back ++ rest) ≤ count =
     (let l0 = left_length marks rest in let l1 = left_length j.back rest in
-        let l2 : length marks ≡ length is.front + length (j.front ++ j.back) = ap length parts ∙ length-append is.front (j.front ++ j.back) in
-        let l3 : length (j.front ++ j.back) ≡ suc (length j.back) = ap (λ c. length (c ++ j.back)) j.first.1 in omega arith) in
+    let l2 : length marks ≡ length is.front + length (j.front ++ j.back) = ap length parts ∙ length-append is.front (j.front ++ j.back) in
+    let l3 : length (j.front ++ j.back) ≡ suc (length j.back) = ap (λ c. length (c ++ j.back)) j.first.1 in omega arith) in
     listed-more (level_at g (deeper g n) 0) count done limit d marks is.front j.front j.back rest a (Ok (done ++ list_of (More a (More b more)), rest)) parts j.first (omega arith)
     (whole_back a back_a g n d limit 0 is.front back e is.first (omega arith) (omega arith) (omega arith))
     (listed_back more b all.0 all.1 g n d limit count (done ++ a ∷ []) j.back rest e j.second follows shorter
-        ∙ ap (λ l. cut limit j.back rest (Ok (l, rest))) (append_assoc done (a ∷ []) (list_of (More b more))))
+    ∙ ap (λ l. cut limit j.back rest (Ok (l, rest))) (append_assoc done (a ∷ []) (list_of (More b more))))
 
 deep_listed : (more : Terms) (a : Term) → IsBack a → AreBack more → (g : Dialect) (n d limit : ℕ) (marks : List Mark) (rest : List Symbol) → d + n ≡ limit → arguments g (suc d) (More a more) marks → Follows g rest
     → deep (deeper g n) (begins_expr g) (λ r. listed_at (r.level 0) (length (symbols_of marks ++ rest)) []) (symbols_of marks ++ rest) ≡ cut limit marks rest (Ok (list_of (More a more), rest))
@@ -506,23 +506,23 @@ deep_listed more a back_a all g (suc n) d limit marks rest e is follows =
 close_follows : (g : Dialect) (d : ℕ) (marks : List Mark) (rest : List Symbol) → sign d signs.CloseParenthesis marks → Follows g (symbols_of marks ++ rest)
 unfolding begins_sign
 close_follows g d marks rest is =
-    subst (λ m. Follows g (symbols_of m ++ rest)) (sym is.1) (record { need = needs-close g is.0 rest; no_comma = refl; some = omega arith })
+    subst (λ m. Follows g (symbols_of m ++ rest)) (sym is.1) (record { need = needs-closing g is.0 signs.CloseParenthesis rest refl; no_comma = refl; some = omega arith })
 
 -- arguments and their closing parenthesis
 arguments_back : (args : Terms) → AreBack args → (g : Dialect) (n d limit : ℕ) (marks front close : List Mark) (rest : List Symbol) → d + n ≡ limit → marks ≡ front ++ close → arguments g (suc d) args front → sign d signs.CloseParenthesis close
     → arguments_at g (deeper g n) (symbols_of marks ++ rest) ≡ cut limit marks rest (Ok (list_of args, rest))
 unfolding arguments_at begins_sign
-arguments_back Nothing all g n d limit marks front close rest e parts is closes =
-    cut-token (arguments_at g (deeper g n)) limit d (symbol.Sign closes.0 signs.CloseParenthesis) marks rest (Ok ([], rest)) (parts ∙ ap (λ f. f ++ close) is ∙ closes.1) (omega arith) refl
-arguments_back (More a more) all g n d limit marks front close rest e parts is closes =
+arguments_back Nothing all g n d limit marks front close rest e parts is ends =
+    cut-token (arguments_at g (deeper g n)) limit d (symbol.Sign ends.0 signs.CloseParenthesis) marks rest (Ok ([], rest)) (parts ∙ ap (λ f. f ++ close) is ∙ ends.1) (omega arith) refl
+arguments_back (More a more) all g n d limit marks front close rest e parts is ends =
     let open_still : begins_sign signs.CloseParenthesis (symbols_of marks ++ rest) ≡ false =
     nothing_closed g (symbols_of marks ++ rest)
     (begins-at (λ s. begins_expr g s ≡ true) (suc d) marks rest (begins-append (λ s. begins_expr g s ≡ true) (suc d) marks front close parts (arguments_begin g (suc d) a more front is))) in
     rw (open_still, arguments_at)
     (cut-then (λ s. deep (deeper g n) (begins_expr g) (λ r. listed_at (r.level 0) (length s) []) s) (λ args. behind signs.CloseParenthesis args.1 >>= λ rest. Ok (args.0, rest)) limit marks front close rest
-        (list_of (More a more), symbols_of close ++ rest) (Ok (list_of (More a more), rest)) parts
-        (deep_listed more a all.0 all.1 g n d limit front (symbols_of close ++ rest) e is (close_follows g d close rest closes))
-        (cut-end (behind signs.CloseParenthesis) (λ rest. Ok (list_of (More a more), rest)) limit close rest rest (Ok (list_of (More a more), rest)) (sign-back limit d signs.CloseParenthesis close rest closes (omega arith)) refl))
+    (list_of (More a more), symbols_of close ++ rest) (Ok (list_of (More a more), rest)) parts
+    (deep_listed more a all.0 all.1 g n d limit front (symbols_of close ++ rest) e is (close_follows g d close rest ends))
+    (cut-end (behind signs.CloseParenthesis) (λ rest. Ok (list_of (More a more), rest)) limit close rest rest (Ok (list_of (More a more), rest)) (sign-back limit d signs.CloseParenthesis close rest ends (omega arith)) refl))
 
 called_back : (name : Name) (args : Terms) → AreBack args → IsBack (Called name args)
 unfolding unary_at primary_at named_at begins_sign
@@ -531,10 +531,10 @@ called_back name args all C n d limit least marks rest e is low high need =
     let j = is.1 in let k = j.second in let l = k.second in
     from_postfix (Called name args) C n limit least marks rest (omega arith)
     (cut-first (unary_at C (deeper C n)) limit d (symbol.Name name.at name.word) marks j.front j.back rest (after_postfix C n 0 (Called name args) rest) j.parts j.first (omega arith)
-        (cut-first (λ s. unary_at C (deeper C n) (symbol.Name name.at name.word ∷ s)) limit d (symbol.Sign k.first.0 signs.OpenParenthesis) j.back k.front k.back rest (after_postfix C n 0 (Called name args) rest) k.parts k.first.1 (omega arith)
-            (cut-end (λ s. arguments_at C (deeper C n) s >>= λ args. Ok (Called name (terms_of args.0), args.1)) (λ x. postfix_at C (deeper C n) x.0 x.1) limit k.back rest (Called name args, rest) (after_postfix C n 0 (Called name args) rest)
-                (cut-end (arguments_at C (deeper C n)) (λ args. Ok (Called name (terms_of args.0), args.1)) limit k.back rest (list_of args, rest) (Ok (Called name args, rest))
-                    (arguments_back args all C n d limit k.back l.front l.back rest e l.parts l.first l.second) (ap (λ t. Ok (Called name t, rest)) (terms_of-list args))) refl)))
+    (cut-first (λ s. unary_at C (deeper C n) (symbol.Name name.at name.word ∷ s)) limit d (symbol.Sign k.first.0 signs.OpenParenthesis) j.back k.front k.back rest (after_postfix C n 0 (Called name args) rest) k.parts k.first.1 (omega arith)
+    (cut-end (λ s. arguments_at C (deeper C n) s >>= λ args. Ok (Called name (terms_of args.0), args.1)) (λ x. postfix_at C (deeper C n) x.0 x.1) limit k.back rest (Called name args, rest) (after_postfix C n 0 (Called name args) rest)
+    (cut-end (arguments_at C (deeper C n)) (λ args. Ok (Called name (terms_of args.0), args.1)) limit k.back rest (list_of args, rest) (Ok (Called name args, rest))
+    (arguments_back args all C n d limit k.back l.front l.back rest e l.parts l.first l.second) (ap (λ t. Ok (Called name t, rest)) (terms_of-list args))) refl)))
 
 -- ---- every expression
 

@@ -85,26 +85,6 @@ unfolding needs begins_postfix step_of
 needs-question C at rest = refl
 needs-question Rules at rest = refl
 
-pub needs-colon : (g : Dialect) (at : ℕ) (rest : List Symbol) → needs g (symbol.Sign at signs.Colon ∷ rest) ≡ 0
-unfolding needs begins_postfix step_of assign_of binary_of
-needs-colon C at rest = refl
-needs-colon Rules at rest = refl
-
-pub needs-comma : (g : Dialect) (at : ℕ) (rest : List Symbol) → needs g (symbol.Sign at signs.Comma ∷ rest) ≡ 0
-unfolding needs begins_postfix step_of assign_of binary_of
-needs-comma C at rest = refl
-needs-comma Rules at rest = refl
-
-pub needs-close : (g : Dialect) (at : ℕ) (rest : List Symbol) → needs g (symbol.Sign at signs.CloseParenthesis ∷ rest) ≡ 0
-unfolding needs begins_postfix step_of assign_of binary_of
-needs-close C at rest = refl
-needs-close Rules at rest = refl
-
-pub needs-bracket : (g : Dialect) (at : ℕ) (rest : List Symbol) → needs g (symbol.Sign at signs.CloseBracket ∷ rest) ≡ 0
-unfolding needs begins_postfix step_of assign_of binary_of
-needs-bracket C at rest = refl
-needs-bracket Rules at rest = refl
-
 -- ---- what does not go on
 
 taken : (b : Bool) (n m most : ℕ) → (if b then n else m) ≤ most → most < n → b ≡ false

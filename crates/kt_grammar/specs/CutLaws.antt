@@ -40,10 +40,11 @@ pub if-bind : {A B : Type 0} (b : Bool) (e : Fault) (answer : Result A Fault) (n
 if-bind true e answer next = refl
 if-bind false e answer next = refl
 
--- `n < m` is no longer in doubt
+-- a test that passes
 pub nat_lt-true : (n m : ℕ) → n < m → nat_lt n m ≡ true
 nat_lt-true n m h = grind (arith, nat_tests)
 
+-- a test that does not pass
 pub nat_lt-false : (n m : ℕ) → m ≤ n → nat_lt n m ≡ false
 nat_lt-false n m h = grind (arith, nat_tests)
 
@@ -75,7 +76,7 @@ cut-append limit [] back rest answer = refl
 cut-append limit (m ∷ front) back rest answer =
     let count : 1 + (length (front ++ back) + length rest) ≡ 1 + (length front + length (symbols_of back ++ rest)) =
     (let a : length (front ++ back) ≡ length front + length back = length-append front back in
-        let b : length (symbols_of back ++ rest) ≡ length back + length rest = left_length back rest in omega arith) in
+    let b : length (symbols_of back ++ rest) ≡ length back + length rest = left_length back rest in omega arith) in
     ap (λ n. if nat_lt limit m.depth then Err (TooDeep n) else cut limit (front ++ back) rest answer) count
     ∙ ap (λ a. if nat_lt limit m.depth then Err (TooDeep (1 + (length front + length (symbols_of back ++ rest)))) else a) (cut-append limit front back rest answer)
 
@@ -83,6 +84,31 @@ cut-append limit (m ∷ front) back rest answer =
 pub cut-shallow : {A : Type 0} (limit : ℕ) (marks : List Mark) (rest : List Symbol) (answer : Result A Fault) → IsShallow limit marks → cut limit marks rest answer ≡ answer
 cut-shallow limit [] rest answer h = refl
 cut-shallow limit (m ∷ marks) rest answer h = cut-kept limit m marks rest answer h.0 ∙ cut-shallow limit marks rest answer h.1
+
+if-passed : {A : Type 0} (b : Bool) (e : Fault) (answer : Result A Fault) (x : A) → (if b then Err e else answer) ≡ Ok x → (b ≡ false) × (answer ≡ Ok x)
+if-passed true e answer x h = absurd cc
+if-passed false e answer x h = (refl, h)
+
+nat_lt-passed : (n m : ℕ) → nat_lt n m ≡ false → m ≤ n
+nat_lt-passed n m h = grind (arith, nat_tests)
+
+-- where something is answered, no token was too deep
+pub cut-passed : {A : Type 0} (limit : ℕ) (marks : List Mark) (rest : List Symbol) (answer : Result A Fault) (x : A) → cut limit marks rest answer ≡ Ok x → IsShallow limit marks × (answer ≡ Ok x)
+cut-passed limit [] rest answer x h = (tt, h)
+cut-passed limit (m ∷ marks) rest answer x h =
+    let first = if-passed (nat_lt limit m.depth) (TooDeep (1 + (length marks + length rest))) (cut limit marks rest answer) x h in
+    let others = cut-passed limit marks rest answer x first.1 in
+    ((nat_lt-passed limit m.depth first.0, others.0), others.1)
+
+-- a limit that no token is deeper than
+abbrev pub deepest : List Mark → ℕ
+deepest [] = 0
+deepest (m ∷ marks) = m.depth + deepest marks
+
+-- no token is deeper than such a limit
+pub deepest-shallow : (limit : ℕ) (marks : List Mark) → deepest marks ≤ limit → IsShallow limit marks
+deepest-shallow limit [] h = tt
+deepest-shallow limit (m ∷ marks) h = (omega arith, deepest-shallow limit marks (omega arith))
 
 -- none of joined tokens is too deep
 pub shallow-append : (limit : ℕ) (front back : List Mark) → IsShallow limit front → IsShallow limit back → IsShallow limit (front ++ back)
