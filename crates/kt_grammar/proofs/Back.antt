@@ -1,11 +1,10 @@
 -- An expression that is spelled is read back.
-use Rattle.std.specs.Prelude.{◌≡◌, ℕ, zero, suc, ◌+◌, ◌-◌, ◌<◌, ◌≤◌, ◌==◌, ◌&&◌, not, nat_le, nat_lt, Bool, true, false, List, [], ◌∷◌, ◌++◌, length, drop, Option, Some, None, Result, Ok, Err, if◌then◌else◌}
-use Rattle.std.proofs.Common.{refl, sym, ap, subst, ◌∙◌, arith, inl, inr, ◌⊎◌, append_assoc}
+use Rattle.std.specs.Prelude.{◌≡◌, ℕ, zero, suc, ◌+◌, ◌-◌, ◌<◌, ◌≤◌, ◌==◌, ◌&&◌, nat_le, nat_lt, true, false, List, [], ◌∷◌, ◌++◌, length, drop, Option, Result, Ok, Err, if◌then◌else◌}
+use Rattle.std.proofs.Common.{refl, sym, ap, subst, ◌∙◌, arith, inl, inr, append_assoc}
 use Rattle.std.proofs.lemmas.List.{length-append}
 use Rattle.std.proofs.lemmas.Bool.Decides.{eqb_tells, nat_tests}
 use Rattle.kt_lex.specs.declared.number.Number.{Number}
 use Rattle.kt_grammar.specs.declared.fault.Fault.{Fault}
-use Rattle.kt_grammar.specs.declared.keyword.Keyword.{Keyword}
 use Rattle.kt_grammar.specs.declared.keyword.Keyword.TheVariants as keywords
 use Rattle.kt_grammar.specs.declared.keyword.RuleWord.{RuleWord}
 use Rattle.kt_grammar.specs.declared.keyword.RuleWord.TheVariants as rule
@@ -23,14 +22,14 @@ use Rattle.kt_grammar.specs.declared.operator.AssignOperator.{AssignOperator}
 use Rattle.kt_grammar.specs.declared.tree.Name.{Name}
 use Rattle.kt_grammar.specs.declared.tree.TypeName.{TypeName}
 use Rattle.kt_grammar.specs.Tree.{Term, Terms, Nothing, More, Constant, Character, Text, Null, Eof, Named, Called, Parenthesised, SizeOf, RuleValue, OldSymbol, Transformed, Element, Member, Pointed, Stepped, Prefixed, Converted, Operated, Chosen, Assigned, terms_of}
-use Rattle.kt_grammar.specs.Signs.{is_c, same_sign, precedence, prefix_sign, has_prefix, prefix_of, step_sign, step_of, binary_sign, assign_sign, assign_of}
-use Rattle.kt_grammar.specs.Marks.{Mark, Language, Joined, symbols_of, token, sign}
+use Rattle.kt_grammar.specs.Signs.{is_c, precedence, prefix_sign, has_prefix, step_sign, step_of, binary_sign, assign_sign}
+use Rattle.kt_grammar.specs.Marks.{Mark, Joined, symbols_of, sign}
 use Rattle.kt_grammar.specs.Spelling.{level, links, links_at, is_value, spells, arguments, between, spells_type}
 use Rattle.kt_grammar.specs.Cursor.{◌>>=◌, Outcome, begins_sign, behind, name_at, listed_at}
 use Rattle.kt_grammar.specs.Reading.{Readers, begins_base, begins_expr, begins_postfix, type_at, between_at, deep, deep_level, more_at, index_at, stepped_at, postfix_at, arguments_at, named_at, old_symbol_at, transform_at, rule_at, primary_at, parenthesis_at, prefixed_at, unary_at, assign_here, chain_at, choice_at, assignment_at, tail_at, climb_at, level_at, deeper, expr_at}
 use Rattle.kt_grammar.specs.Laws.{Begins, needs, ExprIsReadBack}
 use Rattle.kt_grammar.specs.Cut.{cut}
-use Rattle.kt_grammar.specs.CutLaws.{cut-bind, cut-kept, cut-joined, cut-first, cut-token, cut-then, cut-end, cut-none, begins-append, begins-weaker, begins-at, left_length}
+use Rattle.kt_grammar.specs.CutLaws.{cut-bind, cut-kept, cut-joined, cut-first, cut-token, cut-then, cut-end, cut-none, begins-append, begins-at, left_length}
 use Rattle.kt_grammar.specs.BackLaws.{closes, needs-closing, sign-back, name-back, type-cut, type-begins, listed-last, listed-more}
 use Rattle.kt_grammar.proofs.Beginnings.{expr_begins}
 use Rattle.kt_grammar.proofs.Fronts.{Quiet, quiet, question-quiet, stop, stop-le, stop-mono, stop-above, needs_7, needs-postfix, no_call, no_postfix, nothing_of_base, nothing_closed, needs-binary, needs-assign, needs-question, prefix_of-sign, prefix_sign-closed, assign_of-sign, precedence-bounds, binary_here-low, binary_here-high}

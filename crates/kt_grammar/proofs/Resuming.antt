@@ -1,9 +1,8 @@
 -- How reading goes on behind an expression that was read.
-use Rattle.std.specs.Prelude.{◌≡◌, ℕ, zero, suc, ◌+◌, ◌-◌, ◌<◌, ◌≤◌, ◌==◌, ◌||◌, nat_le, Bool, true, false, List, [], ◌∷◌, ◌++◌, length, Option, Some, None, Result, Ok, Err, if◌then◌else◌}
+use Rattle.std.specs.Prelude.{◌≡◌, ℕ, zero, suc, ◌+◌, ◌-◌, ◌<◌, ◌≤◌, ◌||◌, nat_le, Bool, true, false, List, [], ◌∷◌, ◌++◌, length, Option, Some, None, Ok, Err, if◌then◌else◌}
 use Rattle.std.specs.Option.{is_some}
-use Rattle.std.proofs.Common.{refl, sym, ap, subst, ◌∙◌, arith, inl, inr, ◌⊎◌}
+use Rattle.std.proofs.Common.{refl, sym, ap, ◌∙◌, arith, inl, inr}
 use Rattle.std.proofs.lemmas.Bool.Decides.{nat_tests, leb_tells}
-use Rattle.kt_grammar.specs.declared.fault.Fault.{Fault}
 use Rattle.kt_grammar.specs.declared.fault.Fault.TheVariants.{TooDeep}
 use Rattle.kt_grammar.specs.declared.sign.Sign.{Sign}
 use Rattle.kt_grammar.specs.declared.sign.Sign.TheVariants as signs
@@ -14,12 +13,11 @@ use Rattle.kt_grammar.specs.declared.operator.BinaryOperator.{BinaryOperator}
 use Rattle.kt_grammar.specs.Tree.{Term, Operated}
 use Rattle.kt_grammar.specs.Signs.{same_sign, precedence, binary_sign, step_of}
 use Rattle.kt_grammar.specs.Marks.{Mark, symbols_of}
-use Rattle.kt_grammar.specs.Spelling.{level, links, links_at}
 use Rattle.kt_grammar.specs.Cursor.{◌>>=◌, Outcome}
-use Rattle.kt_grammar.specs.Reading.{Readers, begins_expr, begins_postfix, deep, more_at, postfix_at, stepped_at, binary_here, chain_at, tail_at, climb_at, level_at, deeper}
+use Rattle.kt_grammar.specs.Reading.{Readers, begins_expr, begins_postfix, deep, more_at, postfix_at, stepped_at, binary_here, chain_at, climb_at, deeper}
 use Rattle.kt_grammar.specs.Cut.{cut}
 use Rattle.kt_grammar.specs.CutLaws.{cut-kept, cut-deep}
-use Rattle.kt_grammar.proofs.Fronts.{Quiet, nothing_there, precedence-bounds, binary_here-sign, binary_here-low, binary_here-high}
+use Rattle.kt_grammar.proofs.Fronts.{Quiet, nothing_there, binary_here-sign}
 
 -- ---- postfix operators
 

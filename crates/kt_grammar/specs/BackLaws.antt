@@ -1,8 +1,7 @@
 -- Signs, names and types that are spelled are read back.
-use Rattle.std.specs.Prelude.{◌≡◌, ℕ, zero, suc, ◌+◌, ◌≤◌, ◌==◌, Bool, true, false, List, [], ◌∷◌, ◌++◌, ◌⊎◌, length, drop, Result, Ok, Err, if◌then◌else◌}
-use Rattle.std.proofs.Common.{inl, inr, refl, sym, ap, subst, ◌∙◌, arith, append_assoc}
+use Rattle.std.specs.Prelude.{◌≡◌, ℕ, zero, suc, ◌+◌, ◌≤◌, ◌==◌, Bool, true, false, List, [], ◌∷◌, ◌++◌, ◌⊎◌, drop, Ok, if◌then◌else◌}
+use Rattle.std.proofs.Common.{inl, inr, refl, sym, ap, subst, ◌∙◌, arith}
 use Rattle.std.proofs.lemmas.Bool.Decides.{nat_tests}
-use Rattle.kt_grammar.specs.declared.fault.Fault.{Fault}
 use Rattle.kt_grammar.specs.declared.keyword.Keyword.{Keyword}
 use Rattle.kt_grammar.specs.declared.keyword.Keyword.TheVariants as keywords
 use Rattle.kt_grammar.specs.declared.sign.Sign.{Sign}
@@ -17,13 +16,13 @@ use Rattle.kt_grammar.specs.declared.tree.Base.TheVariants as base
 use Rattle.kt_grammar.specs.declared.tree.TypeName.{TypeName}
 use Rattle.kt_grammar.specs.Tree.{Term}
 use Rattle.kt_grammar.specs.Signs.{sign_number, same_sign, step_of, assign_of, binary_of}
-use Rattle.kt_grammar.specs.Marks.{Mark, Joined, symbols_of, IsShallow, token, sign, keyword, name, nothing, repeated}
+use Rattle.kt_grammar.specs.Marks.{Mark, symbols_of, IsShallow, token, sign, keyword, name, nothing, repeated}
 use Rattle.kt_grammar.specs.Spelling.{spells, bare_base, spells_base, spells_type}
 use Rattle.kt_grammar.specs.Cursor.{◌>>=◌, Outcome, begins_sign, behind, name_at, count_sign, listed_at}
 use Rattle.kt_grammar.specs.Reading.{begins_postfix, expr_at, begins_base, behind_const, bare_base_at, base_at, type_at}
 use Rattle.kt_grammar.specs.Laws.{Begins, needs, ExprIsReadBack}
 use Rattle.kt_grammar.specs.Cut.{cut}
-use Rattle.kt_grammar.specs.CutLaws.{deepest, deepest-shallow, symbols_of-joined, cut-kept, cut-shallow, cut-first, cut-token, cut-then, cut-end, shallow-append, begins-append, begins-token}
+use Rattle.kt_grammar.specs.CutLaws.{deepest, deepest-shallow, symbols_of-joined, cut-shallow, cut-first, cut-token, cut-then, cut-end, shallow-append, begins-append}
 
 -- ---- signs and names
 

@@ -1,13 +1,12 @@
 -- How the answer on tokens that may be too deep is put together.
-use Rattle.std.specs.Prelude.{◌≡◌, ℕ, zero, suc, ◌+◌, ◌<◌, ◌≤◌, nat_lt, Bool, true, false, List, [], ◌∷◌, ◌++◌, map, length, Result, Ok, Err, if◌then◌else◌}
-use Rattle.std.specs.List.{AllByRecursion}
+use Rattle.std.specs.Prelude.{◌≡◌, ℕ, suc, ◌+◌, ◌<◌, ◌≤◌, nat_lt, Bool, true, false, List, [], ◌∷◌, ◌++◌, length, Result, Ok, Err, if◌then◌else◌}
 use Rattle.std.proofs.Common.{refl, sym, ap, subst, ◌∙◌, arith, append_assoc}
 use Rattle.std.proofs.lemmas.List.{length-append}
 use Rattle.std.proofs.lemmas.Bool.Decides.{nat_tests}
 use Rattle.kt_grammar.specs.declared.fault.Fault.{Fault}
 use Rattle.kt_grammar.specs.declared.fault.Fault.TheVariants.{TooDeep}
 use Rattle.kt_grammar.specs.declared.symbol.Symbol.{Symbol}
-use Rattle.kt_grammar.specs.Marks.{Mark, Language, Joined, symbols_of, IsShallow, token}
+use Rattle.kt_grammar.specs.Marks.{Mark, symbols_of, IsShallow, token}
 use Rattle.kt_grammar.specs.Cursor.{◌>>=◌, unexpected}
 use Rattle.kt_grammar.specs.Laws.{Begins}
 use Rattle.kt_grammar.specs.Cut.{cut}
