@@ -29,7 +29,7 @@ use Rattle.kt_grammar.specs.Cursor.{◌>>=◌, Outcome, begins_sign, behind, nam
 use Rattle.kt_grammar.specs.Reading.{Readers, begins_base, begins_expr, begins_postfix, type_at, between_at, deep, deep_level, more_at, index_at, stepped_at, postfix_at, arguments_at, named_at, old_symbol_at, transform_at, rule_at, primary_at, parenthesis_at, prefixed_at, unary_at, assign_here, chain_at, choice_at, assignment_at, tail_at, climb_at, level_at, deeper, expr_at}
 use Rattle.kt_grammar.specs.Laws.{Begins, needs, ExprIsReadBack}
 use Rattle.kt_grammar.specs.Cut.{cut}
-use Rattle.kt_grammar.specs.CutLaws.{cut-bind, cut-kept, cut-joined, cut-first, cut-token, cut-then, cut-end, cut-none, begins-append, begins-at, left_length}
+use Rattle.kt_grammar.specs.CutLaws.{cut-bind, cut-kept, cut-joined, cut-first, cut-token, cut-then, cut-end, cut-none, begins-append, begins-at, symbols_of-rest}
 use Rattle.kt_grammar.specs.BackLaws.{closes, needs-closing, sign-back, name-back, type-cut, type-begins, listed-last, listed-more}
 use Rattle.kt_grammar.proofs.Beginnings.{expr_begins}
 use Rattle.kt_grammar.proofs.Fronts.{Quiet, quiet, question-quiet, stop, stop-le, stop-mono, stop-above, needs_7, needs-postfix, no_call, no_postfix, nothing_of_base, nothing_closed, needs-binary, needs-assign, needs-question, prefix_of-sign, prefix_sign-closed, assign_of-sign, precedence-bounds, binary_here-low, binary_here-high}
@@ -476,7 +476,7 @@ record Follows (g : Dialect) (rest : List Symbol) : Type 0 where
 listed_back : (more : Terms) (a : Term) → IsBack a → AreBack more → (g : Dialect) (n d limit count : ℕ) (done : List Term) (marks : List Mark) (rest : List Symbol) → d + n ≡ limit → arguments g d (More a more) marks → Follows g rest
     → length (symbols_of marks ++ rest) ≤ count
     → listed_at (level_at g (deeper g n) 0) count done (symbols_of marks ++ rest) ≡ cut limit marks rest (Ok (done ++ list_of (More a more), rest))
-listed_back more a back_a all g n d limit zero done marks rest e is follows enough = let l = left_length marks rest in let s = follows.some in absurd (omega arith)
+listed_back more a back_a all g n d limit zero done marks rest e is follows enough = let l = symbols_of-rest marks rest in let s = follows.some in absurd (omega arith)
 listed_back Nothing a back_a all g n d limit (suc count) done marks rest e is follows enough =
     let need = follows.need in
     listed-last (level_at g (deeper g n) 0) count done limit marks rest a follows.no_comma (whole_back a back_a g n d limit 0 marks rest e is (omega arith) (omega arith) (omega arith))
@@ -486,7 +486,7 @@ listed_back (More b more) a back_a all g n d limit (suc count) done marks rest e
     let parts : marks ≡ is.front ++ (j.front ++ j.back) = is.parts ∙ ap (λ b. is.front ++ b) j.parts in
     let comma : needs g back ≡ 0 = ap (λ c. needs g (symbols_of (c ++ j.back) ++ rest)) j.first.1 ∙ needs-closing g j.first.0 signs.Comma (symbols_of j.back ++ rest) refl in
     let shorter : length (symbols_of j.back ++ rest) ≤ count =
-    (let l0 = left_length marks rest in let l1 = left_length j.back rest in
+    (let l0 = symbols_of-rest marks rest in let l1 = symbols_of-rest j.back rest in
     let l2 : length marks ≡ length is.front + length (j.front ++ j.back) = ap length parts ∙ length-append is.front (j.front ++ j.back) in
     let l3 : length (j.front ++ j.back) ≡ suc (length j.back) = ap (λ c. length (c ++ j.back)) j.first.1 in omega arith) in
     listed-more (level_at g (deeper g n) 0) count done limit d marks is.front j.front j.back rest a (Ok (done ++ list_of (More a (More b more)), rest)) parts j.first (omega arith)

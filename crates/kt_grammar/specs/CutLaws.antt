@@ -1,5 +1,5 @@
 -- How the answer on tokens that may be too deep is put together.
-use Rattle.std.specs.Prelude.{◌≡◌, ℕ, suc, ◌+◌, ◌<◌, ◌≤◌, nat_lt, Bool, true, false, List, [], ◌∷◌, ◌++◌, length, Result, Ok, Err, if◌then◌else◌}
+use Rattle.std.specs.Prelude.{max, ◌≡◌, ℕ, suc, ◌+◌, ◌<◌, ◌≤◌, nat_lt, Bool, true, false, List, [], ◌∷◌, ◌++◌, length, Result, Ok, Err, if◌then◌else◌}
 use Rattle.std.proofs.Common.{refl, sym, ap, subst, ◌∙◌, arith, append_assoc}
 use Rattle.std.proofs.lemmas.List.{length-append}
 use Rattle.std.proofs.lemmas.Bool.Decides.{nat_tests}
@@ -28,9 +28,9 @@ pub symbols_of-joined : (marks front back : List Mark) (rest : List Symbol) → 
 symbols_of-joined marks front back rest e =
     ap (λ m. symbols_of m ++ rest) e ∙ ap (λ l. l ++ rest) (symbols_of-append front back) ∙ append_assoc (symbols_of front) (symbols_of back) rest
 
--- how many symbols stand there
-pub left_length : (marks : List Mark) (rest : List Symbol) → length (symbols_of marks ++ rest) ≡ length marks + length rest
-left_length marks rest = length-append (symbols_of marks) rest ∙ ap (λ n. n + length rest) (symbols_of-length marks)
+-- how many symbols stand before and in a rest
+pub symbols_of-rest : (marks : List Mark) (rest : List Symbol) → length (symbols_of marks ++ rest) ≡ length marks + length rest
+symbols_of-rest marks rest = length-append (symbols_of marks) rest ∙ ap (λ n. n + length rest) (symbols_of-length marks)
 
 -- ---- choices
 
@@ -58,7 +58,7 @@ pub cut-deep : {A : Type 0} (limit : ℕ) (m : Mark) (marks : List Mark) (rest :
     → cut limit (m ∷ marks) rest answer ≡ Err (TooDeep (length (symbols_of (m ∷ marks) ++ rest)))
 cut-deep limit m marks rest answer h =
     ap (λ b. if b then Err (TooDeep (1 + (length marks + length rest))) else cut limit marks rest answer) (nat_lt-true limit m.depth h)
-    ∙ ap (λ n. Err (TooDeep n)) (let e : length (symbols_of marks ++ rest) ≡ length marks + length rest = left_length marks rest in omega arith)
+    ∙ ap (λ n. Err (TooDeep n)) (let e : length (symbols_of marks ++ rest) ≡ length marks + length rest = symbols_of-rest marks rest in omega arith)
 
 -- what is done behind the tokens is done behind the cut
 pub cut-bind : {A B : Type 0} (limit : ℕ) (marks : List Mark) (rest : List Symbol) (answer : Result A Fault) (next : A → Result B Fault)
@@ -75,7 +75,7 @@ cut-append limit [] back rest answer = refl
 cut-append limit (m ∷ front) back rest answer =
     let count : 1 + (length (front ++ back) + length rest) ≡ 1 + (length front + length (symbols_of back ++ rest)) =
     (let a : length (front ++ back) ≡ length front + length back = length-append front back in
-    let b : length (symbols_of back ++ rest) ≡ length back + length rest = left_length back rest in omega arith) in
+    let b : length (symbols_of back ++ rest) ≡ length back + length rest = symbols_of-rest back rest in omega arith) in
     ap (λ n. if nat_lt limit m.depth then Err (TooDeep n) else cut limit (front ++ back) rest answer) count
     ∙ ap (λ a. if nat_lt limit m.depth then Err (TooDeep (1 + (length front + length (symbols_of back ++ rest)))) else a) (cut-append limit front back rest answer)
 
@@ -99,12 +99,12 @@ cut-passed limit (m ∷ marks) rest answer x h =
     let others = cut-passed limit marks rest answer x first.1 in
     ((nat_lt-passed limit m.depth first.0, others.0), others.1)
 
--- a limit that no token is deeper than
+-- the depth of the deepest token
 abbrev pub deepest : List Mark → ℕ
 deepest [] = 0
-deepest (m ∷ marks) = m.depth + deepest marks
+deepest (m ∷ marks) = max m.depth (deepest marks)
 
--- no token is deeper than such a limit
+-- no token is deeper than the deepest
 pub deepest-shallow : (limit : ℕ) (marks : List Mark) → deepest marks ≤ limit → IsShallow limit marks
 deepest-shallow limit [] h = tt
 deepest-shallow limit (m ∷ marks) h = (omega arith, deepest-shallow limit marks (omega arith))
