@@ -12,14 +12,12 @@ use Rattle.kt_grammar.specs.declared.operator.Dialect.{Dialect}
 use Rattle.kt_grammar.specs.declared.operator.Dialect.TheVariants.{C, Rules}
 use Rattle.kt_grammar.specs.declared.operator.PrefixOperator.{PrefixOperator}
 use Rattle.kt_grammar.specs.declared.operator.PrefixOperator.TheVariants as prefix
-use Rattle.kt_grammar.specs.declared.operator.StepOperator.{StepOperator}
-use Rattle.kt_grammar.specs.declared.operator.StepOperator.TheVariants as step
 use Rattle.kt_grammar.specs.declared.operator.BinaryOperator.{BinaryOperator}
 use Rattle.kt_grammar.specs.declared.operator.BinaryOperator.TheVariants as binary
 use Rattle.kt_grammar.specs.declared.operator.AssignOperator.{AssignOperator}
 use Rattle.kt_grammar.specs.declared.operator.AssignOperator.TheVariants as assign
 use Rattle.kt_grammar.specs.Tree.{Term}
-use Rattle.kt_grammar.specs.Signs.{is_c, same_sign, precedence, prefix_sign, has_prefix, prefix_of, step_sign, step_of, binary_sign, binary_of, assign_sign, assign_of}
+use Rattle.kt_grammar.specs.Signs.{is_c, same_sign, precedence, prefix_sign, has_prefix, prefix_of, step_of, binary_sign, binary_of, assign_sign, assign_of}
 use Rattle.kt_grammar.specs.Cursor.{begins_sign}
 use Rattle.kt_grammar.specs.Reading.{Readers, begins_base, begins_expr, begins_postfix, binary_here, assign_here, chain_at, choice_at, assignment_at, tail_at}
 use Rattle.kt_grammar.specs.Laws.{binary_needs, needs}
@@ -42,12 +40,6 @@ prefix_of-sign Rules _ h = absurd cc
 pub prefix_sign-closed : (op : PrefixOperator) → same_sign (prefix_sign op) signs.OpenParenthesis ≡ false
 prefix_sign-closed prefix.Negate = refl
 prefix_sign-closed _ = refl
-
-pub step_of-sign : (g : Dialect) (op : StepOperator) → is_c g ≡ true → step_of g (step_sign op) ≡ Some op
-unfolding step_of
-step_of-sign C step.Increment h = refl
-step_of-sign C step.Decrement h = refl
-step_of-sign Rules op h = absurd cc
 
 pub binary_of-sign : (op : BinaryOperator) → binary_of (binary_sign op) ≡ Some op
 unfolding binary_of

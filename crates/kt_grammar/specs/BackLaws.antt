@@ -249,7 +249,7 @@ expr-once law g d x y marks is also = same x y (sym (expr-whole law g d x marks 
     same : (x y : Term) → ◌≡◌ {A = Outcome Term} (Ok (x, [])) (Ok (y, [])) → x ≡ y
     same x y h = let p : ◌≡◌ {A = Term × List Symbol} (x, []) (y, []) = cc in ap (λ p. p.0) p
 
--- the signs that end an expression
+-- signs before which an expression ends
 abbrev pub closes : Sign → Bool
 closes signs.OpenBrace = true
 closes signs.CloseBrace = true
