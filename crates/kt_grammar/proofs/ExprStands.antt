@@ -1,0 +1,264 @@
+-- What is read as an expression is one, no token of it too deep.
+use Rattle.std.proofs.Common.{◌≡◌, ℕ, zero, suc, ◌+◌, ◌-◌, ◌≤◌, ◌<◌, Bool, true, false, not, cond, List, [], ◌∷◌, ◌++◌, length, drop, Option, Some, None, Result, Ok, Err, refl, sym, ap, ◌∙◌, subst, inl, inr, ◌⊎◌, arith, le_refl, append_assoc, append-nil, ◌==◌, eqb, nat_le, nat_lt, le-leb, lt-ltb, eq-eqb, ne_eqb, le_of_eq}
+use Rattle.std.specs.Prelude.{if◌then◌else◌}
+use Rattle.kt_grammar.specs.declared.keyword.Keyword.TheVariants as keywords
+use Rattle.kt_grammar.specs.declared.keyword.RuleWord.{RuleWord}
+use Rattle.kt_grammar.specs.declared.keyword.RuleWord.TheVariants as rule
+use Rattle.kt_grammar.specs.declared.sign.Sign.{Sign}
+use Rattle.kt_grammar.specs.declared.sign.Sign.TheVariants as sign
+use Rattle.kt_grammar.specs.declared.symbol.Symbol.{Symbol}
+use Rattle.kt_grammar.specs.declared.symbol.Symbol.TheVariants as symbol
+use Rattle.kt_grammar.specs.declared.operator.Dialect.{Dialect}
+use Rattle.kt_grammar.specs.declared.operator.PrefixOperator.{PrefixOperator}
+use Rattle.kt_grammar.specs.declared.operator.StepOperator.{StepOperator}
+use Rattle.kt_grammar.specs.declared.operator.BinaryOperator.{BinaryOperator}
+use Rattle.kt_grammar.specs.declared.operator.AssignOperator.{AssignOperator}
+use Rattle.kt_grammar.specs.declared.tree.Name.{Name}
+use Rattle.kt_grammar.specs.declared.tree.TypeName.{TypeName}
+use Rattle.kt_grammar.specs.Tree.{Term, Constant, Character, Text, Null, Eof, Named, Called, Parenthesised, SizeOf, RuleValue, OldSymbol, Transformed, Element, Member, Pointed, Stepped, Prefixed, Converted, Operated, Chosen, Assigned, Terms, Nothing, More, terms_of}
+use Rattle.kt_grammar.specs.Signs.{is_c, same_sign, prefix_sign, has_prefix, step_sign, binary_sign, assign_sign, precedence, prefix_of, step_of}
+use Rattle.kt_grammar.specs.Marks.{Mark, symbols_of, IsShallow, Language, nothing, token, sign as sign_token, name, Joined, ◌·◌, when}
+use Rattle.kt_grammar.specs.Spelling.{level, links, links_at, between, spells_type, spells, arguments}
+use Rattle.kt_grammar.specs.Cursor.{◌>>=◌, Outcome, begins_sign, behind, name_at, listed_at}
+use Rattle.kt_grammar.specs.Reading.{Readers, begins_base, begins_expr, begins_postfix, type_at, between_at, deep, deep_level, more_at, index_at, stepped_at, postfix_at, arguments_at, named_at, old_symbol_at, transform_at, rule_at, primary_at, parenthesis_at, prefixed_at, unary_at, binary_here, assign_here, chain_at, choice_at, assignment_at, tail_at, climb_at, level_at, deeper, expr_at}
+use Rattle.kt_grammar.specs.Laws.{Stands, ExprStands}
+use Rattle.kt_grammar.specs.StandsLaws.{no_value, by_value, Step, bind_ok, either, chosen, chosen_first, chosen_second, both_true, same_sign_is, nothing_stands, token_stands, stands_joined, stands_as, stands_when, begins_sign_stands, behind_stands, name_at_stands, type_at_stands, between_at_stands, listed, ListedStands, listed_at_stands}
+use Rattle.kt_grammar.proofs.Operators.{picked, prefix_of-is, step_of-is, sign_is_stands, binary_here-is, assign_here-is}
+
+-- what stands behind an expression and makes another of it
+abbrev continues : Dialect → ℕ → Term → Term → List Mark → Type 0
+continues g d x y marks = (before : List Mark) → spells g d x before → spells g d y (before ++ marks)
+
+-- an expression of at least a level stands there
+record LevelStands (g : Dialect) (limit d least : ℕ) (symbols : List Symbol) (y : Term × List Symbol) : Type 0 where
+  stands : Stands limit (spells g d y.0) symbols y.1
+  at_least : least ≤ level y.0
+
+-- what makes of x an expression of at least a level stands there
+record GoesOn (g : Dialect) (limit d least : ℕ) (x : Term) (symbols : List Symbol) (y : Term × List Symbol) : Type 0 where
+  stands : Stands limit (continues g d x y.0) symbols y.1
+  at_least : least ≤ level y.0
+
+-- what these read at a depth stands there
+record IsSound (g : Dialect) (limit d : ℕ) (r : Readers) : Type 0 where
+  within : d ≤ limit
+  level_is : (least : ℕ) (symbols : List Symbol) (y : Term × List Symbol) → least ≤ 8 → r.level least symbols ≡ Ok y → LevelStands g limit d least symbols y
+  chain_is : (start l : ℕ) (x : Term) (symbols : List Symbol) (y : Term × List Symbol) → start + links_at l x ≡ d → l ≤ 7 → l ≤ level x → r.chain l x symbols ≡ Ok y → GoesOn g limit start l x symbols y
+  postfix_is : (start : ℕ) (x : Term) (symbols : List Symbol) (y : Term × List Symbol) → start + links x ≡ d → 9 ≤ level x → r.postfix x symbols ≡ Ok y → GoesOn g limit start 9 x symbols y
+
+abbrev AreSound : Dialect → ℕ → ℕ → Option Readers → Type 0
+AreSound g limit d None = Unit {0}
+AreSound g limit d (Some r) = IsSound g limit d r
+
+-- ---- going on
+
+goes_nowhere : (g : Dialect) (limit d least : ℕ) (x : Term) (symbols : List Symbol) → least ≤ level x → GoesOn g limit d least x symbols (x, symbols)
+goes_nowhere g limit d least x symbols h = record {
+  stands = stands_as (continues g d x x) (λ m n before s. subst (spells g d x) (sym (append-nil before) ∙ ap (λ (m : List Mark). before ++ m) (sym n)) s) (nothing_stands limit symbols);
+  at_least = h;
+}
+
+goes_further : (g : Dialect) (limit d k l : ℕ) (x : Term) (symbols : List Symbol) (y z : Term × List Symbol) → GoesOn g limit d k x symbols y → GoesOn g limit d l y.0 y.1 z → GoesOn g limit d l x symbols z
+goes_further g limit d k l x symbols y z a b = record {
+  stands = stands_as (continues g d x z.0)
+    (λ m j before s. subst (spells g d z.0) (append_assoc before j.front j.back ∙ ap (λ (m : List Mark). before ++ m) (sym j.parts)) (j.second (before ++ j.front) (j.first before s)))
+    (stands_joined a.stands b.stands);
+  at_least = b.at_least;
+}
+
+goes_behind : (g : Dialect) (limit d l : ℕ) (symbols : List Symbol) (x y : Term × List Symbol) → Stands limit (spells g d x.0) symbols x.1 → GoesOn g limit d l x.0 x.1 y → LevelStands g limit d l symbols y
+goes_behind g limit d l symbols x y a b = record {
+  stands = stands_as (spells g d y.0) (λ m j. subst (spells g d y.0) (sym j.parts) (j.second j.front j.first)) (stands_joined a b.stands);
+  at_least = b.at_least;
+}
+
+-- one more part behind an expression
+goes_once : (g : Dialect) (limit d l : ℕ) (x y : Term) (symbols rest : List Symbol) (B : List Mark → Type 0) → ((marks : List Mark) → Joined (spells g d x) B marks → spells g d y marks) → l ≤ level y → Stands limit B symbols rest
+    → GoesOn g limit d l x symbols (y, rest)
+goes_once g limit d l x y symbols rest B f h s = record {
+  stands = stands_as (continues g d x y) (λ m b before a. f (before ++ m) (record { front = before; back = m; parts = refl; first = a; second = b })) s;
+  at_least = h;
+}
+
+-- ---- one deeper
+
+deep-is : {A : Type 0} (r : Option Readers) (begins : List Symbol → Bool) (read : Readers → List Symbol → Result A _) (symbols : List Symbol) (y : A) → deep r begins read symbols ≡ Ok y → (s : Readers) × (r ≡ Some s) × (read s symbols ≡ Ok y)
+deep-is None begins read symbols y e = elim (chosen (begins symbols) _ _ (Ok y) e) [
+  | inl c ↦ no_value _ y c.1
+  | inr c ↦ no_value _ y c.1
+]
+deep-is (Some s) begins read symbols y e = (s, refl, e)
+
+deep_level-is : (g : Dialect) (limit d : ℕ) (r : Option Readers) → AreSound g limit d r → (least : ℕ) (symbols : List Symbol) (y : Term × List Symbol) → least ≤ 8 → deep_level g r least symbols ≡ Ok y → LevelStands g limit d least symbols y
+deep_level-is g limit d r sound least symbols y h e =
+    let s = deep-is r (begins_expr g) (λ r. r.level least) symbols y e in
+    let one : IsSound g limit d s.0 = subst (AreSound g limit d) s.1 sound in
+    one.level_is least symbols y h s.2
+
+more_at-is : (g : Dialect) (limit d : ℕ) (r : Option Readers) → AreSound g limit d r → (start : ℕ) (x : Term) (symbols : List Symbol) (y : Term × List Symbol) → start + links x ≡ d → 9 ≤ level x → more_at g r x symbols ≡ Ok y
+    → GoesOn g limit start 9 x symbols y
+more_at-is g limit d None sound start x symbols y at h e =
+    let c = chosen_second (begins_postfix g symbols) (Ok (x, symbols)) _ y e in
+    by_value (GoesOn g limit start 9 x symbols) (x, symbols) y c.1 (goes_nowhere g limit start 9 x symbols h)
+more_at-is g limit d (Some r) sound start x symbols y at h e = sound.postfix_is start x symbols y at h e
+
+-- ---- postfix operators
+
+module _ (g : Dialect) (limit start : ℕ) (r : Option Readers) (x : Term) (h : 9 ≤ level x) (within : start + links x ≤ limit) (sound : AreSound g limit (suc (start + links x)) r) where
+  -- a postfix operator that is read, and those behind it
+  one_more : (made : Term) (rest : List Symbol) (y : Term × List Symbol) → links made ≡ suc (links x) → 9 ≤ level made → more_at g r made rest ≡ Ok y → GoesOn g limit start 9 made rest y
+  one_more made rest y more high e = more_at-is g limit (suc (start + links x)) r sound start made rest y (let m : start + suc (links x) ≡ suc (start + links x) = omega arith in ap (λ k. start + k) more ∙ m) high e
+
+  index_at-is : (symbols inner : List Symbol) (y : Term × List Symbol) → Stands limit (sign_token (start + links x) sign.OpenBracket) symbols inner → index_at g r x inner ≡ Ok y → GoesOn g limit start 9 x symbols y
+  unfolding index_at
+  index_at-is symbols inner y opened e =
+      let i = bind_ok (deep_level g r 0 inner) _ y e in
+      let t = bind_ok (behind sign.CloseBracket i.value.1) _ y i.then_gave in
+      let inside = deep_level-is g limit (suc (start + links x)) r sound 0 inner i.value (omega arith) i.gave in
+      let made = Element x i.value.0 in
+      goes_further g limit start 9 9 x symbols (made, t.value) y
+      (goes_once g limit start 9 x made symbols t.value _ (λ m j. (le-leb 9 (level x) h, j)) (omega arith)
+        (stands_joined opened (stands_joined inside.stands (behind_stands limit (start + links x) sign.CloseBracket i.value.1 t.value within t.gave))))
+      (one_more made t.value y refl (omega arith) t.then_gave)
+
+  member_at-is : (symbols inner : List Symbol) (y : Term × List Symbol) → Stands limit (sign_token (start + links x) sign.Dot) symbols inner
+      → (name_at inner >>= λ n. more_at g r (Member x n.0) n.1) ≡ Ok y → GoesOn g limit start 9 x symbols y
+  member_at-is symbols inner y dot e =
+      let n = bind_ok (name_at inner) _ y e in
+      let made = Member x n.value.0 in
+      goes_further g limit start 9 9 x symbols (made, n.value.1) y
+      (goes_once g limit start 9 x made symbols n.value.1 _ (λ m j. (le-leb 9 (level x) h, j)) (omega arith)
+        (stands_joined dot (name_at_stands limit (start + links x) inner n.value within n.gave)))
+      (one_more made n.value.1 y refl (omega arith) n.then_gave)
+
+  pointed_at-is : (symbols inner : List Symbol) (y : Term × List Symbol) → Stands limit (sign_token (start + links x) sign.Arrow) symbols inner
+      → (name_at inner >>= λ n. more_at g r (Pointed x n.0) n.1) ≡ Ok y → GoesOn g limit start 9 x symbols y
+  pointed_at-is symbols inner y arrow e =
+      let n = bind_ok (name_at inner) _ y e in
+      let made = Pointed x n.value.0 in
+      goes_further g limit start 9 9 x symbols (made, n.value.1) y
+      (goes_once g limit start 9 x made symbols n.value.1 _ (λ m j. (le-leb 9 (level x) h, j)) (omega arith)
+        (stands_joined arrow (name_at_stands limit (start + links x) inner n.value within n.gave)))
+      (one_more made n.value.1 y refl (omega arith) n.then_gave)
+
+  stepped_at-is : (at : ℕ) (s : Sign) (rest : List Symbol) (y : Term × List Symbol) → stepped_at g r x s (symbol.Sign at s ∷ rest) rest ≡ Ok y → GoesOn g limit start 9 x (symbol.Sign at s ∷ rest) y
+  unfolding stepped_at
+  stepped_at-is at s rest y e = elim (picked (step_of g s) _ _ (Ok y) e) [
+    | inl none ↦ by_value (GoesOn g limit start 9 x (symbol.Sign at s ∷ rest)) (x, symbol.Sign at s ∷ rest) y none.1 (goes_nowhere g limit start 9 x (symbol.Sign at s ∷ rest) h)
+    | inr some ↦
+      let is = step_of-is g s some.0 some.1 in
+      let made = Stepped x some.0 in
+      goes_further g limit start 9 9 x (symbol.Sign at s ∷ rest) (made, rest) y
+      (goes_once g limit start 9 x made (symbol.Sign at s ∷ rest) rest _ (λ m j. (is.0, (le-leb 9 (level x) h, j))) (omega arith)
+        (sign_is_stands limit (start + links x) at s (step_sign some.0) rest within is.1))
+      (one_more made rest y refl (omega arith) some.2)
+  ]
+
+  signed_postfix_at-is : (at : ℕ) (s : Sign) (rest : List Symbol) (y : Term × List Symbol) → postfix_at g r x (symbol.Sign at s ∷ rest) ≡ Ok y → GoesOn g limit start 9 x (symbol.Sign at s ∷ rest) y
+  unfolding postfix_at
+  signed_postfix_at-is at s rest y e =
+      let front : (t : Sign) → same_sign s t ≡ true → Stands limit (sign_token (start + links x) t) (symbol.Sign at s ∷ rest) rest
+      = λ t same. sign_is_stands limit (start + links x) at s t rest within (same_sign_is s t same) in
+      elim (chosen (same_sign s sign.OpenBracket) _ _ (Ok y) e) [
+        | inl a ↦ index_at-is (symbol.Sign at s ∷ rest) rest y (front sign.OpenBracket a.0) a.1
+        | inr a ↦ elim (chosen (same_sign s sign.Dot) _ _ (Ok y) a.1) [
+          | inl b ↦ member_at-is (symbol.Sign at s ∷ rest) rest y (front sign.Dot b.0) b.1
+          | inr b ↦ elim (chosen (same_sign s sign.Arrow) _ _ (Ok y) b.1) [
+            | inl c ↦ pointed_at-is (symbol.Sign at s ∷ rest) rest y (front sign.Arrow c.0) c.1
+            | inr c ↦ stepped_at-is at s rest y c.1
+          ]
+        ]
+      ]
+
+  postfix_at-is : (symbols : List Symbol) (y : Term × List Symbol) → postfix_at g r x symbols ≡ Ok y → GoesOn g limit start 9 x symbols y
+  unfolding postfix_at
+  postfix_at-is (symbol.Sign at s ∷ rest) y e = signed_postfix_at-is at s rest y e
+  postfix_at-is [] y e = by_value (GoesOn g limit start 9 x []) (x, []) y e (goes_nowhere g limit start 9 x [] h)
+  postfix_at-is (other ∷ rest) y e = by_value (GoesOn g limit start 9 x (other ∷ rest)) (x, other ∷ rest) y e (goes_nowhere g limit start 9 x (other ∷ rest) h)
+
+-- ---- chains of binary operators
+
+-- an expression of a higher level has no operator of this one
+no_links : (l : ℕ) (x : Term) → suc l ≤ level x → links_at l x ≡ 0
+no_links l x h = ap (λ (t : Bool). cond t (links x) 0) (ne_eqb (level x) l (λ e. let clash : ⊥ = omega arith in clash))
+
+-- a chain is one operator longer with the next one
+one_link : (op : BinaryOperator) (x y : Term) → links_at (precedence op) (Operated op x y) ≡ suc (links_at (precedence op) x)
+one_link op x y = ap (λ (t : Bool). cond t (suc (links_at (precedence op) x)) 0) (eq-eqb (precedence op) (precedence op) refl)
+
+chain_with : (g : Dialect) (limit start l : ℕ) (r : Readers) (x : Term) (symbols : List Symbol) (op : BinaryOperator) (y : Term × List Symbol) → l ≤ 7 → l ≤ level x → IsSound g limit (suc (start + links_at l x)) r
+    → precedence op ≡ l → Stands limit (sign_token (start + links_at l x) (binary_sign op)) symbols (drop 1 symbols)
+    → (r.level (suc l) (drop 1 symbols) >>= λ y. r.chain l (Operated op x y.0) y.1) ≡ Ok y → GoesOn g limit start l x symbols y
+chain_with g limit start l r x symbols op y small h sound is front e =
+    let s = bind_ok (r.level (suc l) (drop 1 symbols)) _ y e in
+    let right = sound.level_is (suc l) (drop 1 symbols) s.value (omega arith) s.gave in
+    let made = Operated op x s.value.0 in
+    let at : start + links_at l made ≡ suc (start + links_at l x) =
+    subst (λ (l : ℕ). start + links_at l made ≡ suc (start + links_at l x)) is (ap (λ k. start + k) (one_link op x s.value.0) ∙ omega arith) in
+    goes_further g limit start l l x symbols (made, s.value.1) y
+    (goes_once g limit start l x made symbols s.value.1 (sign_token (start + links_at l x) (binary_sign op) · spells g (suc (start + links_at l x)) s.value.0)
+      (λ m j. subst (λ (l : ℕ). l ≤ level x → suc l ≤ level s.value.0 → Joined (spells g start x) (sign_token (start + links_at l x) (binary_sign op) · spells g (suc (start + links_at l x)) s.value.0) m → spells g start made m) is
+        (λ low high j. (le-leb (precedence op) (level x) low, (lt-ltb (precedence op) (level s.value.0) high, j))) h right.at_least j)
+      (le_of_eq (sym is))
+      (stands_joined front right.stands))
+    (sound.chain_is start l made s.value.1 y at small (le_of_eq (sym is)) s.then_gave)
+
+chain_at-is : (g : Dialect) (limit start l : ℕ) (r : Option Readers) (x : Term) → l ≤ 7 → l ≤ level x → start + links_at l x ≤ limit → AreSound g limit (suc (start + links_at l x)) r
+    → (symbols : List Symbol) (y : Term × List Symbol) → chain_at g r l x symbols ≡ Ok y → GoesOn g limit start l x symbols y
+unfolding chain_at
+chain_at-is g limit start l r x small h within sound symbols y e = elim (picked (binary_here l symbols) _ _ (Ok y) e) [
+  | inl none ↦ by_value (GoesOn g limit start l x symbols) (x, symbols) y none.1 (goes_nowhere g limit start l x symbols h)
+  | inr some ↦
+    let front = binary_here-is limit (start + links_at l x) l symbols some.0 within some.1 in
+    let s = deep-is r (begins_expr g) _ (drop 1 symbols) y some.2 in
+    chain_with g limit start l s.0 x symbols some.0 y small h (subst (AreSound g limit (suc (start + links_at l x))) s.1 sound) front.0 front.1 s.2
+]
+
+-- ---- what goes on behind an expression
+
+module _ (g : Dialect) (limit d : ℕ) (r : Option Readers) (within : d ≤ limit) (sound : AreSound g limit (suc d) r) where
+  choice_at-is : (x : Term) (symbols : List Symbol) (y : Term × List Symbol) → 2 ≤ level x → choice_at g r x symbols ≡ Ok y → GoesOn g limit d 1 x symbols y
+  unfolding choice_at
+  choice_at-is x symbols y h e = elim (chosen (begins_sign sign.Question symbols) _ _ (Ok y) e) [
+    | inl c ↦
+      let a = bind_ok (deep_level g r 0 (drop 1 symbols)) _ y c.1 in
+      let t = bind_ok (behind sign.Colon a.value.1) _ y a.then_gave in
+      let b = bind_ok (deep_level g r 1 t.value) _ y t.then_gave in
+      let middle = deep_level-is g limit (suc d) r sound 0 (drop 1 symbols) a.value (omega arith) a.gave in
+      let last = deep_level-is g limit (suc d) r sound 1 t.value b.value (omega arith) b.gave in
+      by_value (GoesOn g limit d 1 x symbols) (Chosen x a.value.0 b.value.0, b.value.1) y b.then_gave
+      (goes_once g limit d 1 x (Chosen x a.value.0 b.value.0) symbols b.value.1 _ (λ m j. (le-leb 2 (level x) h, (le-leb 1 (level b.value.0) last.at_least, j))) (omega arith)
+        (stands_joined (begins_sign_stands limit d sign.Question symbols within c.0)
+        (stands_joined middle.stands (stands_joined (behind_stands limit d sign.Colon a.value.1 t.value within t.gave) last.stands))))
+    | inr c ↦ by_value (GoesOn g limit d 1 x symbols) (x, symbols) y c.1 (goes_nowhere g limit d 1 x symbols (omega arith))
+  ]
+
+  assignment_at-is : (x : Term) (symbols : List Symbol) (y : Term × List Symbol) → 1 ≤ level x → assignment_at g r x symbols ≡ Ok y → GoesOn g limit d 0 x symbols y
+  unfolding assignment_at
+  assignment_at-is x symbols y h e = elim (picked (assign_here g symbols) _ _ (Ok y) e) [
+    | inl none ↦ by_value (GoesOn g limit d 0 x symbols) (x, symbols) y none.1 (goes_nowhere g limit d 0 x symbols (omega arith))
+    | inr some ↦
+      let front = assign_here-is limit d g symbols some.0 within some.1 in
+      let b = bind_ok (deep_level g r 0 (drop 1 symbols)) _ y some.2 in
+      let right = deep_level-is g limit (suc d) r sound 0 (drop 1 symbols) b.value (omega arith) b.gave in
+      by_value (GoesOn g limit d 0 x symbols) (Assigned some.0 x b.value.0, b.value.1) y b.then_gave
+      (goes_once g limit d 0 x (Assigned some.0 x b.value.0) symbols b.value.1 _ (λ m j. (front.0, (le-leb 1 (level x) h, j))) (omega arith)
+        (stands_joined front.1 right.stands))
+  ]
+
+  tail_at-is : (l : ℕ) (x : Term) (symbols : List Symbol) (y : Term × List Symbol) → l ≤ 7 → suc l ≤ level x → tail_at g r l x symbols ≡ Ok y → GoesOn g limit d l x symbols y
+  unfolding tail_at
+  tail_at-is zero x symbols y small h e = assignment_at-is x symbols y h e
+  tail_at-is (suc zero) x symbols y small h e = choice_at-is x symbols y h e
+  tail_at-is (suc (suc k)) x symbols y small h e =
+      let none = no_links (suc (suc k)) x h in
+      let at : d ≡ d + links_at (suc (suc k)) x = omega arith in
+      chain_at-is g limit d (suc (suc k)) r x small (omega arith) (omega arith) (subst (λ (d : ℕ). AreSound g limit (suc d) r) at sound) symbols y e
+
+  climb_at-is : (least n : ℕ) (x : Term) (symbols : List Symbol) (y : Term × List Symbol) → least + n ≤ 8 → least + n ≤ level x → climb_at g r least n x symbols ≡ Ok y → GoesOn g limit d least x symbols y
+  unfolding climb_at
+  climb_at-is least zero x symbols y small h e = by_value (GoesOn g limit d least x symbols) (x, symbols) y e (goes_nowhere g limit d least x symbols (omega arith))
+  climb_at-is least (suc n) x symbols y small h e =
+      let s = bind_ok (tail_at g r (least + n) x symbols) _ y e in
+      let one = tail_at-is (least + n) x symbols s.value (omega arith) (omega arith) s.gave in
+      goes_further g limit d (least + n) least x symbols s.value y one (climb_at-is least n s.value.0 s.value.1 y (omega arith) one.at_least s.then_gave)
