@@ -1,5 +1,5 @@
 -- What is read as an expression is one, no token of it too deep.
-use Rattle.std.proofs.Common.{◌≡◌, ℕ, zero, suc, ◌+◌, ◌-◌, ◌≤◌, ◌<◌, Bool, true, false, not, cond, List, [], ◌∷◌, ◌++◌, length, drop, Option, Some, None, Result, Ok, Err, refl, sym, ap, ◌∙◌, subst, inl, inr, ◌⊎◌, arith, le_refl, append_assoc, append-nil, ◌==◌, eqb, nat_le, nat_lt, le-leb, lt-ltb, eq-eqb, ne_eqb, le_of_eq}
+use Rattle.std.proofs.Common.{◌≡◌, ℕ, zero, suc, ◌+◌, ◌-◌, ◌≤◌, ◌<◌, Bool, true, false, not, cond, List, [], ◌∷◌, ◌++◌, length, drop, Option, Some, None, Result, Ok, Err, refl, sym, ap, ◌∙◌, subst, inl, inr, ◌⊎◌, arith, le_refl, append_assoc, append-nil, ◌==◌, eqb, nat_le, nat_lt, le-leb, lt-ltb, eq-eqb, ne_eqb, le_of_eq, ◌&&◌}
 use Rattle.std.specs.Prelude.{if◌then◌else◌}
 use Rattle.kt_grammar.specs.declared.keyword.Keyword.TheVariants as keywords
 use Rattle.kt_grammar.specs.declared.keyword.RuleWord.{RuleWord}
@@ -262,3 +262,237 @@ module _ (g : Dialect) (limit d : ℕ) (r : Option Readers) (within : d ≤ limi
       let s = bind_ok (tail_at g r (least + n) x symbols) _ y e in
       let one = tail_at-is (least + n) x symbols s.value (omega arith) (omega arith) s.gave in
       goes_further g limit d (least + n) least x symbols s.value y one (climb_at-is least n s.value.0 s.value.1 y (omega arith) one.at_least s.then_gave)
+
+-- ---- primary expressions
+
+-- a primary expression stands there
+record PrimaryStands (g : Dialect) (limit d : ℕ) (symbols : List Symbol) (y : Term × List Symbol) : Type 0 where
+  stands : Stands limit (spells g d y.0) symbols y.1
+  level_is : level y.0 ≡ 9
+  links_are : links y.0 ≡ 0
+
+primary : {g : Dialect} {limit d : ℕ} {symbols rest : List Symbol} (x : Term) (y : Term × List Symbol) → ◌≡◌ {A = Outcome Term} (Ok (x, rest)) (Ok y) → level x ≡ 9 → links x ≡ 0 → Stands limit (spells g d x) symbols rest → PrimaryStands g limit d symbols y
+primary {g} {limit} {d} {symbols} {rest} x y e l k s = by_value (PrimaryStands g limit d symbols) (x, rest) y e (record { stands = s; level_is = l; links_are = k })
+
+-- what is listed are arguments
+listed_arguments : (g : Dialect) (d : ℕ) (items : List Term) (marks : List Mark) → listed d (spells g d) items marks → arguments g d (terms_of items) marks
+listed_arguments g d [] marks l = l
+listed_arguments g d (x ∷ []) marks l = l
+listed_arguments g d (x ∷ y ∷ items) marks l = record {
+  front = l.front;
+  back = l.back;
+  parts = l.parts;
+  first = l.first;
+  second = record {
+    front = l.second.front;
+    back = l.second.back;
+    parts = l.second.parts;
+    first = l.second.first;
+    second = listed_arguments g d (y ∷ items) l.second.back l.second.second;
+  };
+}
+
+module _ (g : Dialect) (limit d : ℕ) (r : Option Readers) (within : d ≤ limit) (sound : AreSound g limit (suc d) r) where
+  listed_terms : (s : Readers) → r ≡ Some s → (symbols : List Symbol) (y : List Term × List Symbol) → listed_at (s.level 0) (length symbols) [] symbols ≡ Ok y
+      → Stands limit (arguments g (suc d) (terms_of y.0)) symbols y.1
+  listed_terms s is symbols y e =
+      let one : IsSound g limit (suc d) s = subst (AreSound g limit (suc d)) is sound in
+      let l = listed_at_stands limit (suc d) (spells g (suc d)) (s.level 0) one.within (λ symbols x e. (one.level_is 0 symbols x (omega arith) e).stands) (length symbols) [] symbols y e in
+      subst (λ (items : List Term). Stands limit (arguments g (suc d) (terms_of items)) symbols y.1) (sym l.is)
+      (stands_as (arguments g (suc d) (terms_of (l.first ∷ l.others))) (listed_arguments g (suc d) (l.first ∷ l.others)) l.stands)
+
+  arguments_at-is : (symbols : List Symbol) (y : List Term × List Symbol) → arguments_at g r symbols ≡ Ok y
+      → Stands limit (arguments g (suc d) (terms_of y.0) · sign_token d sign.CloseParenthesis) symbols y.1
+  unfolding arguments_at
+  arguments_at-is symbols y e =
+      let Ends : List Term × List Symbol → Type 0 = λ y. Stands limit (arguments g (suc d) (terms_of y.0) · sign_token d sign.CloseParenthesis) symbols y.1 in
+      elim (chosen (begins_sign sign.CloseParenthesis symbols) _ _ (Ok y) e) [
+        | inl c ↦ by_value Ends ([], drop 1 symbols) y c.1 (stands_joined (nothing_stands limit symbols) (begins_sign_stands limit d sign.CloseParenthesis symbols within c.0))
+        | inr c ↦
+          let a = bind_ok (deep r (begins_expr g) (λ r. listed_at (r.level 0) (length symbols) []) symbols) _ y c.1 in
+          let t = bind_ok (behind sign.CloseParenthesis a.value.1) _ y a.then_gave in
+          let s = deep-is r (begins_expr g) (λ r. listed_at (r.level 0) (length symbols) []) symbols a.value a.gave in
+          by_value Ends (a.value.0, t.value) y t.then_gave
+          (stands_joined (listed_terms s.0 s.1 symbols a.value s.2) (behind_stands limit d sign.CloseParenthesis a.value.1 t.value within t.gave))
+      ]
+
+  named_at-is : (n : Name) (symbols rest : List Symbol) (y : Term × List Symbol) → Stands limit (name d n) symbols rest → named_at g r n rest ≡ Ok y → PrimaryStands g limit d symbols y
+  unfolding named_at
+  named_at-is n symbols rest y named e = elim (chosen (is_c g && begins_sign sign.OpenParenthesis rest) _ _ (Ok y) e) [
+    | inl c ↦
+      let both = both_true (is_c g) (begins_sign sign.OpenParenthesis rest) c.0 in
+      let a = bind_ok (arguments_at g r (drop 1 rest)) _ y c.1 in
+      primary (Called n (terms_of a.value.0)) y a.then_gave refl refl
+      (stands_when (is_c g) both.0 (stands_joined named
+        (stands_joined (begins_sign_stands limit d sign.OpenParenthesis rest within both.1) (arguments_at-is (drop 1 rest) a.value a.gave))))
+    | inr c ↦ primary (Named n) y c.1 refl refl named
+  ]
+
+  old_symbol_at-is : (at : ℕ) (rest : List Symbol) (y : Term × List Symbol) → is_c g ≡ false → old_symbol_at at rest ≡ Ok y → PrimaryStands g limit d (symbol.RuleWord at rule.OldSymbol ∷ rest) y
+  unfolding old_symbol_at
+  old_symbol_at-is at rest y rules e =
+      let o = bind_ok (behind sign.OpenParenthesis rest) _ y e in
+      let n = bind_ok (name_at o.value) _ y o.then_gave in
+      let t = bind_ok (behind sign.CloseParenthesis n.value.1) _ y n.then_gave in
+      primary (OldSymbol at n.value.0) y t.then_gave refl refl
+      (stands_when (not (is_c g)) (ap not rules) (stands_joined (token_stands limit d (symbol.RuleWord at rule.OldSymbol) rest within)
+        (stands_joined (behind_stands limit d sign.OpenParenthesis rest o.value within o.gave)
+        (stands_joined (name_at_stands limit d o.value n.value within n.gave) (behind_stands limit d sign.CloseParenthesis n.value.1 t.value within t.gave)))))
+
+  transform_at-is : (at : ℕ) (rest : List Symbol) (y : Term × List Symbol) → is_c g ≡ false → transform_at g r at rest ≡ Ok y → PrimaryStands g limit d (symbol.RuleWord at rule.Transform ∷ rest) y
+  unfolding transform_at
+  transform_at-is at rest y rules e =
+      let o = bind_ok (behind sign.OpenParenthesis rest) _ y e in
+      let a = bind_ok (deep_level g r 0 o.value) _ y o.then_gave in
+      let t = bind_ok (behind sign.CloseParenthesis a.value.1) _ y a.then_gave in
+      let inside = deep_level-is g limit (suc d) r sound 0 o.value a.value (omega arith) a.gave in
+      primary (Transformed at a.value.0) y t.then_gave refl refl
+      (stands_when (not (is_c g)) (ap not rules) (stands_joined (token_stands limit d (symbol.RuleWord at rule.Transform) rest within)
+        (stands_joined (behind_stands limit d sign.OpenParenthesis rest o.value within o.gave)
+        (stands_joined inside.stands (behind_stands limit d sign.CloseParenthesis a.value.1 t.value within t.gave)))))
+
+  rule_at-is : (at : ℕ) (word : RuleWord) (rest : List Symbol) (y : Term × List Symbol) → is_c g ≡ false → rule_at g r at word rest ≡ Ok y → PrimaryStands g limit d (symbol.RuleWord at word ∷ rest) y
+  unfolding rule_at
+  rule_at-is at rule.In rest y rules e = primary (RuleValue at rule.In) y e refl refl (stands_when (not (is_c g)) (ap not rules) (stands_when true refl (token_stands limit d (symbol.RuleWord at rule.In) rest within)))
+  rule_at-is at rule.Out rest y rules e = primary (RuleValue at rule.Out) y e refl refl (stands_when (not (is_c g)) (ap not rules) (stands_when true refl (token_stands limit d (symbol.RuleWord at rule.Out) rest within)))
+  rule_at-is at rule.Base rest y rules e = primary (RuleValue at rule.Base) y e refl refl (stands_when (not (is_c g)) (ap not rules) (stands_when true refl (token_stands limit d (symbol.RuleWord at rule.Base) rest within)))
+  rule_at-is at rule.OldSymbol rest y rules e = old_symbol_at-is at rest y rules e
+  rule_at-is at rule.Transform rest y rules e = transform_at-is at rest y rules e
+
+  size_of_at-is : (at : ℕ) (rest : List Symbol) (y : Term × List Symbol) → is_c g ≡ true → (between_at rest >>= λ t. Ok (SizeOf at t.0, t.1)) ≡ Ok y → PrimaryStands g limit d (symbol.Keyword at keywords.SizeOf ∷ rest) y
+  size_of_at-is at rest y c e =
+      let t = bind_ok (between_at rest) _ y e in
+      primary (SizeOf at t.value.0) y t.then_gave refl refl
+      (stands_when (is_c g) c (stands_joined (token_stands limit d (symbol.Keyword at keywords.SizeOf) rest within) (between_at_stands limit d rest t.value within t.gave)))
+
+  primary_at-is : (symbols : List Symbol) (y : Term × List Symbol) → primary_at g r symbols ≡ Ok y → PrimaryStands g limit d symbols y
+  unfolding primary_at
+  primary_at-is [] y e = no_value _ y e
+  primary_at-is (symbol.Name at word ∷ rest) y e =
+      named_at-is (record { at = at; word = word }) (symbol.Name at word ∷ rest) rest y (token_stands limit d (symbol.Name at word) rest within) e
+  primary_at-is (symbol.Keyword at keywords.Null ∷ rest) y e = primary (Null at) y e refl refl (token_stands limit d (symbol.Keyword at keywords.Null) rest within)
+  primary_at-is (symbol.Keyword at keywords.Eof ∷ rest) y e = primary (Eof at) y e refl refl (token_stands limit d (symbol.Keyword at keywords.Eof) rest within)
+  primary_at-is (symbol.Keyword at keywords.SizeOf ∷ rest) y e = let c = chosen_first (is_c g) _ _ y e in size_of_at-is at rest y c.0 c.1
+  primary_at-is (symbol.Keyword at other ∷ rest) y e = no_value _ y e
+  primary_at-is (symbol.Number at n ∷ rest) y e = primary (Constant at n) y e refl refl (token_stands limit d (symbol.Number at n) rest within)
+  primary_at-is (symbol.Character at b ∷ rest) y e = primary (Character at b) y e refl refl (token_stands limit d (symbol.Character at b) rest within)
+  primary_at-is (symbol.Text at bytes ∷ rest) y e =
+      let c = chosen_first (is_c g) _ _ y e in
+      primary (Text at bytes) y c.1 refl refl (stands_when (is_c g) c.0 (token_stands limit d (symbol.Text at bytes) rest within))
+  primary_at-is (symbol.RuleWord at word ∷ rest) y e = let c = chosen_second (is_c g) _ _ y e in rule_at-is at word rest y c.0 c.1
+  primary_at-is (symbol.Sign at s ∷ rest) y e = no_value _ y e
+  primary_at-is (symbol.Other at ∷ rest) y e = no_value _ y e
+
+  -- ---- unary expressions
+
+  -- a primary expression and the postfix operators behind it
+  goes_on_postfix : (symbols : List Symbol) (x y : Term × List Symbol) → PrimaryStands g limit d symbols x → postfix_at g r x.0 x.1 ≡ Ok y → LevelStands g limit d 8 symbols y
+  goes_on_postfix symbols x y p e =
+      let at : d ≡ d + links x.0 = let none = p.links_are in omega arith in
+      let is = p.level_is in
+      let on = postfix_at-is g limit d r x.0 (omega arith) (omega arith) (subst (λ (d : ℕ). AreSound g limit (suc d) r) at sound) x.1 y e in
+      let all = goes_behind g limit d 9 symbols x y p.stands on in
+      let high = all.at_least in
+      record { stands = all.stands; at_least = omega arith }
+
+  cast_at-is : (at : ℕ) (rest : List Symbol) (y : Term × List Symbol)
+      → (type_at rest >>= λ t. behind sign.CloseParenthesis t.1 >>= λ rest. deep_level g r 8 rest >>= λ a. Ok (Converted at t.0 a.0, a.1)) ≡ Ok y
+      → LevelStands g limit d 8 (symbol.Sign at sign.OpenParenthesis ∷ rest) y
+  cast_at-is at rest y e =
+      let t = bind_ok (type_at rest) _ y e in
+      let c = bind_ok (behind sign.CloseParenthesis t.value.1) _ y t.then_gave in
+      let a = bind_ok (deep_level g r 8 c.value) _ y c.then_gave in
+      let inside = deep_level-is g limit (suc d) r sound 8 c.value a.value (omega arith) a.gave in
+      by_value (LevelStands g limit d 8 (symbol.Sign at sign.OpenParenthesis ∷ rest)) (Converted at t.value.0 a.value.0, a.value.1) y a.then_gave
+      (record {
+        stands = stands_when (nat_le 8 (level a.value.0)) (le-leb 8 (level a.value.0) inside.at_least)
+            (stands_joined (token_stands limit d (symbol.Sign at sign.OpenParenthesis) rest within)
+            (stands_joined (type_at_stands limit d rest t.value within t.gave)
+            (stands_joined (behind_stands limit d sign.CloseParenthesis t.value.1 c.value within c.gave) inside.stands)));
+        at_least = omega arith;
+      })
+
+  parenthesised_at-is : (at : ℕ) (rest : List Symbol) (y : Term × List Symbol)
+      → (deep_level g r 0 rest >>= λ a. behind sign.CloseParenthesis a.1 >>= λ rest. postfix_at g r (Parenthesised at a.0) rest) ≡ Ok y
+      → LevelStands g limit d 8 (symbol.Sign at sign.OpenParenthesis ∷ rest) y
+  parenthesised_at-is at rest y e =
+      let a = bind_ok (deep_level g r 0 rest) _ y e in
+      let c = bind_ok (behind sign.CloseParenthesis a.value.1) _ y a.then_gave in
+      let inside = deep_level-is g limit (suc d) r sound 0 rest a.value (omega arith) a.gave in
+      goes_on_postfix (symbol.Sign at sign.OpenParenthesis ∷ rest) (Parenthesised at a.value.0, c.value) y
+      (record {
+        stands = stands_joined (token_stands limit d (symbol.Sign at sign.OpenParenthesis) rest within)
+            (stands_joined inside.stands (behind_stands limit d sign.CloseParenthesis a.value.1 c.value within c.gave));
+        level_is = refl;
+        links_are = refl;
+      })
+      c.then_gave
+
+  parenthesis_at-is : (at : ℕ) (rest : List Symbol) (y : Term × List Symbol) → parenthesis_at g r at rest ≡ Ok y → LevelStands g limit d 8 (symbol.Sign at sign.OpenParenthesis ∷ rest) y
+  unfolding parenthesis_at
+  parenthesis_at-is at rest y e = elim (chosen (begins_base rest) _ _ (Ok y) e) [
+    | inl c ↦ cast_at-is at rest y c.1
+    | inr c ↦ parenthesised_at-is at rest y c.1
+  ]
+
+  prefixed_at-is : (at : ℕ) (s : Sign) (o : Option PrefixOperator) (rest : List Symbol) (y : Term × List Symbol) → prefix_of g s ≡ o → prefixed_at g r at o (symbol.Sign at s ∷ rest) rest ≡ Ok y → LevelStands g limit d 8 (symbol.Sign at s ∷ rest) y
+  unfolding prefixed_at
+  prefixed_at-is at s None rest y is e = no_value _ y e
+  prefixed_at-is at s (Some op) rest y is e =
+      let a = bind_ok (deep_level g r 8 rest) _ y e in
+      let inside = deep_level-is g limit (suc d) r sound 8 rest a.value (omega arith) a.gave in
+      let known = prefix_of-is g s op is in
+      by_value (LevelStands g limit d 8 (symbol.Sign at s ∷ rest)) (Prefixed at op a.value.0, a.value.1) y a.then_gave
+      (record {
+        stands = stands_when (has_prefix g op) known.1 (stands_when (nat_le 8 (level a.value.0)) (le-leb 8 (level a.value.0) inside.at_least)
+            (stands_joined (subst (λ (s : Sign). Stands limit (token d (symbol.Sign at (prefix_sign op))) (symbol.Sign at s ∷ rest) rest) (sym known.0) (token_stands limit d (symbol.Sign at (prefix_sign op)) rest within)) inside.stands));
+        at_least = omega arith;
+      })
+
+  unary_sign_at-is : (at : ℕ) (s : Sign) (rest : List Symbol) (y : Term × List Symbol) → unary_at g r (symbol.Sign at s ∷ rest) ≡ Ok y → LevelStands g limit d 8 (symbol.Sign at s ∷ rest) y
+  unfolding unary_at
+  unary_sign_at-is at s rest y e = elim (chosen (same_sign s sign.OpenParenthesis) _ _ (Ok y) e) [
+    | inl c ↦ subst (λ (s : Sign). LevelStands g limit d 8 (symbol.Sign at s ∷ rest) y) (sym (same_sign_is s sign.OpenParenthesis c.0)) (parenthesis_at-is at rest y c.1)
+    | inr c ↦ prefixed_at-is at s (prefix_of g s) rest y refl c.1
+  ]
+
+  unary_at-is : (symbols : List Symbol) (y : Term × List Symbol) → unary_at g r symbols ≡ Ok y → LevelStands g limit d 8 symbols y
+  unfolding unary_at
+  unary_at-is (symbol.Sign at s ∷ rest) y e = unary_sign_at-is at s rest y e
+  unary_at-is [] y e = no_value _ y e
+  unary_at-is (other ∷ rest) y e =
+      let x = bind_ok (primary_at g r (other ∷ rest)) _ y e in
+      goes_on_postfix (other ∷ rest) x.value y (primary_at-is (other ∷ rest) x.value x.gave) x.then_gave
+
+  level_at-is : (least : ℕ) (symbols : List Symbol) (y : Term × List Symbol) → least ≤ 8 → level_at g r least symbols ≡ Ok y → LevelStands g limit d least symbols y
+  unfolding level_at
+  level_at-is least symbols y small e =
+      let x = bind_ok (unary_at g r symbols) _ y e in
+      let first = unary_at-is symbols x.value x.gave in
+      let high = first.at_least in
+      goes_behind g limit d least symbols x.value y first.stands
+      (climb_at-is g limit d r within sound least (8 - least) x.value.0 x.value.1 y (omega arith) (omega arith) x.then_gave)
+
+  -- what reads one deeper reads soundly here
+  readers_are : IsSound g limit d (record { level = level_at g r; chain = chain_at g r; postfix = postfix_at g r })
+  readers_are = record {
+    within = within;
+    level_is = level_at-is;
+    chain_is = λ start l x symbols y at small h e.
+        chain_at-is g limit start l r x small h (subst (λ (k : ℕ). k ≤ limit) (sym at) within) (subst (λ (k : ℕ). AreSound g limit (suc k) r) (sym at) sound) symbols y e;
+    postfix_is = λ start x symbols y at h e.
+        postfix_at-is g limit start r x h (subst (λ (k : ℕ). k ≤ limit) (sym at) within) (subst (λ (k : ℕ). AreSound g limit (suc k) r) (sym at) sound) symbols y e;
+  }
+
+-- ---- at any depth
+
+deeper-is : (g : Dialect) (limit n d : ℕ) → d + n ≡ limit → AreSound g limit (suc d) (deeper g n)
+unfolding deeper
+deeper-is g limit zero d at = tt
+deeper-is g limit (suc n) d at = readers_are g limit (suc d) (deeper g n) (omega arith) (deeper-is g limit n (suc d) (omega arith))
+
+pub expr_stands : ExprStands
+unfolding expr_at
+expr_stands g n d symbols x rest e =
+    let read = level_at-is g (d + n) d (deeper g n) (omega arith) (deeper-is g (d + n) n d refl) 0 symbols (x, rest) (omega arith) e in
+    read.stands
