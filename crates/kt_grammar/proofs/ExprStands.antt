@@ -1,6 +1,5 @@
 -- What is read as an expression is one, no token of it too deep.
-use Rattle.std.proofs.Common.{◌≡◌, ℕ, zero, suc, ◌+◌, ◌-◌, ◌≤◌, ◌<◌, Bool, true, false, not, cond, List, [], ◌∷◌, ◌++◌, length, drop, Option, Some, None, Result, Ok, Err, refl, sym, ap, ◌∙◌, subst, inl, inr, ◌⊎◌, arith, le_refl, append_assoc, append-nil, ◌==◌, eqb, nat_le, nat_lt, le-leb, lt-ltb, eq-eqb, ne_eqb, le_of_eq, ◌&&◌}
-use Rattle.std.specs.Prelude.{if◌then◌else◌}
+use Rattle.std.proofs.Common.{◌≡◌, ℕ, zero, suc, ◌+◌, ◌-◌, ◌≤◌, Bool, true, false, not, cond, List, [], ◌∷◌, ◌++◌, length, drop, Option, Some, None, Result, Ok, refl, sym, ap, ◌∙◌, subst, inl, inr, arith, append_assoc, append-nil, nat_le, le-leb, lt-ltb, eq-eqb, ne_eqb, le_of_eq, ◌&&◌}
 use Rattle.kt_grammar.specs.declared.keyword.Keyword.TheVariants as keywords
 use Rattle.kt_grammar.specs.declared.keyword.RuleWord.{RuleWord}
 use Rattle.kt_grammar.specs.declared.keyword.RuleWord.TheVariants as rule
@@ -10,19 +9,16 @@ use Rattle.kt_grammar.specs.declared.symbol.Symbol.{Symbol}
 use Rattle.kt_grammar.specs.declared.symbol.Symbol.TheVariants as symbol
 use Rattle.kt_grammar.specs.declared.operator.Dialect.{Dialect}
 use Rattle.kt_grammar.specs.declared.operator.PrefixOperator.{PrefixOperator}
-use Rattle.kt_grammar.specs.declared.operator.StepOperator.{StepOperator}
 use Rattle.kt_grammar.specs.declared.operator.BinaryOperator.{BinaryOperator}
-use Rattle.kt_grammar.specs.declared.operator.AssignOperator.{AssignOperator}
 use Rattle.kt_grammar.specs.declared.tree.Name.{Name}
-use Rattle.kt_grammar.specs.declared.tree.TypeName.{TypeName}
-use Rattle.kt_grammar.specs.Tree.{Term, Constant, Character, Text, Null, Eof, Named, Called, Parenthesised, SizeOf, RuleValue, OldSymbol, Transformed, Element, Member, Pointed, Stepped, Prefixed, Converted, Operated, Chosen, Assigned, Terms, Nothing, More, terms_of}
-use Rattle.kt_grammar.specs.Signs.{is_c, same_sign, prefix_sign, has_prefix, step_sign, binary_sign, assign_sign, precedence, prefix_of, step_of}
-use Rattle.kt_grammar.specs.Marks.{Mark, symbols_of, IsShallow, Language, nothing, token, sign as sign_token, name, Joined, ◌·◌, when}
-use Rattle.kt_grammar.specs.Spelling.{level, links, links_at, between, spells_type, spells, arguments}
+use Rattle.kt_grammar.specs.Tree.{Term, Constant, Character, Text, Null, Eof, Named, Called, Parenthesised, SizeOf, RuleValue, OldSymbol, Transformed, Element, Member, Pointed, Stepped, Prefixed, Converted, Operated, Chosen, Assigned, terms_of}
+use Rattle.kt_grammar.specs.Signs.{is_c, same_sign, prefix_sign, has_prefix, step_sign, binary_sign, precedence, prefix_of, step_of}
+use Rattle.kt_grammar.specs.Marks.{Mark, token, sign as sign_token, name, Joined, ◌·◌}
+use Rattle.kt_grammar.specs.Spelling.{level, links, links_at, spells, arguments}
 use Rattle.kt_grammar.specs.Cursor.{◌>>=◌, Outcome, begins_sign, behind, name_at, listed_at}
 use Rattle.kt_grammar.specs.Reading.{Readers, begins_base, begins_expr, begins_postfix, type_at, between_at, deep, deep_level, more_at, index_at, stepped_at, postfix_at, arguments_at, named_at, old_symbol_at, transform_at, rule_at, primary_at, parenthesis_at, prefixed_at, unary_at, binary_here, assign_here, chain_at, choice_at, assignment_at, tail_at, climb_at, level_at, deeper, expr_at}
 use Rattle.kt_grammar.specs.Laws.{Stands, ExprStands}
-use Rattle.kt_grammar.specs.StandsLaws.{no_value, by_value, Step, bind_ok, either, chosen, chosen_first, chosen_second, both_true, same_sign_is, nothing_stands, token_stands, stands_joined, stands_as, stands_when, begins_sign_stands, behind_stands, name_at_stands, type_at_stands, between_at_stands, listed, ListedStands, listed_at_stands}
+use Rattle.kt_grammar.specs.StandsLaws.{no_value, by_value, bind_ok, chosen, chosen_first, chosen_second, both_true, same_sign_is, nothing_stands, token_stands, stands_joined, stands_as, stands_when, begins_sign_stands, behind_stands, name_at_stands, type_at_stands, between_at_stands, listed, listed_at_stands}
 use Rattle.kt_grammar.proofs.Operators.{picked, prefix_of-is, step_of-is, sign_is_stands, binary_here-is, assign_here-is}
 
 -- what stands behind an expression and makes another of it
@@ -61,8 +57,8 @@ goes_nowhere g limit d least x symbols h = record {
 goes_further : (g : Dialect) (limit d k l : ℕ) (x : Term) (symbols : List Symbol) (y z : Term × List Symbol) → GoesOn g limit d k x symbols y → GoesOn g limit d l y.0 y.1 z → GoesOn g limit d l x symbols z
 goes_further g limit d k l x symbols y z a b = record {
   stands = stands_as (continues g d x z.0)
-    (λ m j before s. subst (spells g d z.0) (append_assoc before j.front j.back ∙ ap (λ (m : List Mark). before ++ m) (sym j.parts)) (j.second (before ++ j.front) (j.first before s)))
-    (stands_joined a.stands b.stands);
+      (λ m j before s. subst (spells g d z.0) (append_assoc before j.front j.back ∙ ap (λ (m : List Mark). before ++ m) (sym j.parts)) (j.second (before ++ j.front) (j.first before s)))
+      (stands_joined a.stands b.stands);
   at_least = b.at_least;
 }
 
@@ -118,7 +114,7 @@ module _ (g : Dialect) (limit start : ℕ) (r : Option Readers) (x : Term) (h : 
       let made = Element x i.value.0 in
       goes_further g limit start 9 9 x symbols (made, t.value) y
       (goes_once g limit start 9 x made symbols t.value _ (λ m j. (le-leb 9 (level x) h, j)) (omega arith)
-        (stands_joined opened (stands_joined inside.stands (behind_stands limit (start + links x) sign.CloseBracket i.value.1 t.value within t.gave))))
+      (stands_joined opened (stands_joined inside.stands (behind_stands limit (start + links x) sign.CloseBracket i.value.1 t.value within t.gave))))
       (one_more made t.value y refl (omega arith) t.then_gave)
 
   member_at-is : (symbols inner : List Symbol) (y : Term × List Symbol) → Stands limit (sign_token (start + links x) sign.Dot) symbols inner
@@ -128,7 +124,7 @@ module _ (g : Dialect) (limit start : ℕ) (r : Option Readers) (x : Term) (h : 
       let made = Member x n.value.0 in
       goes_further g limit start 9 9 x symbols (made, n.value.1) y
       (goes_once g limit start 9 x made symbols n.value.1 _ (λ m j. (le-leb 9 (level x) h, j)) (omega arith)
-        (stands_joined dot (name_at_stands limit (start + links x) inner n.value within n.gave)))
+      (stands_joined dot (name_at_stands limit (start + links x) inner n.value within n.gave)))
       (one_more made n.value.1 y refl (omega arith) n.then_gave)
 
   pointed_at-is : (symbols inner : List Symbol) (y : Term × List Symbol) → Stands limit (sign_token (start + links x) sign.Arrow) symbols inner
@@ -138,7 +134,7 @@ module _ (g : Dialect) (limit start : ℕ) (r : Option Readers) (x : Term) (h : 
       let made = Pointed x n.value.0 in
       goes_further g limit start 9 9 x symbols (made, n.value.1) y
       (goes_once g limit start 9 x made symbols n.value.1 _ (λ m j. (le-leb 9 (level x) h, j)) (omega arith)
-        (stands_joined arrow (name_at_stands limit (start + links x) inner n.value within n.gave)))
+      (stands_joined arrow (name_at_stands limit (start + links x) inner n.value within n.gave)))
       (one_more made n.value.1 y refl (omega arith) n.then_gave)
 
   stepped_at-is : (at : ℕ) (s : Sign) (rest : List Symbol) (y : Term × List Symbol) → stepped_at g r x s (symbol.Sign at s ∷ rest) rest ≡ Ok y → GoesOn g limit start 9 x (symbol.Sign at s ∷ rest) y
@@ -146,12 +142,12 @@ module _ (g : Dialect) (limit start : ℕ) (r : Option Readers) (x : Term) (h : 
   stepped_at-is at s rest y e = elim (picked (step_of g s) _ _ (Ok y) e) [
     | inl none ↦ by_value (GoesOn g limit start 9 x (symbol.Sign at s ∷ rest)) (x, symbol.Sign at s ∷ rest) y none.1 (goes_nowhere g limit start 9 x (symbol.Sign at s ∷ rest) h)
     | inr some ↦
-      let is = step_of-is g s some.0 some.1 in
-      let made = Stepped x some.0 in
-      goes_further g limit start 9 9 x (symbol.Sign at s ∷ rest) (made, rest) y
-      (goes_once g limit start 9 x made (symbol.Sign at s ∷ rest) rest _ (λ m j. (is.0, (le-leb 9 (level x) h, j))) (omega arith)
+        let is = step_of-is g s some.0 some.1 in
+        let made = Stepped x some.0 in
+        goes_further g limit start 9 9 x (symbol.Sign at s ∷ rest) (made, rest) y
+        (goes_once g limit start 9 x made (symbol.Sign at s ∷ rest) rest _ (λ m j. (is.0, (le-leb 9 (level x) h, j))) (omega arith)
         (sign_is_stands limit (start + links x) at s (step_sign some.0) rest within is.1))
-      (one_more made rest y refl (omega arith) some.2)
+        (one_more made rest y refl (omega arith) some.2)
   ]
 
   signed_postfix_at-is : (at : ℕ) (s : Sign) (rest : List Symbol) (y : Term × List Symbol) → postfix_at g r x (symbol.Sign at s ∷ rest) ≡ Ok y → GoesOn g limit start 9 x (symbol.Sign at s ∷ rest) y
@@ -197,10 +193,10 @@ chain_with g limit start l r x symbols op y small h sound is front e =
     subst (λ (l : ℕ). start + links_at l made ≡ suc (start + links_at l x)) is (ap (λ k. start + k) (one_link op x s.value.0) ∙ omega arith) in
     goes_further g limit start l l x symbols (made, s.value.1) y
     (goes_once g limit start l x made symbols s.value.1 (sign_token (start + links_at l x) (binary_sign op) · spells g (suc (start + links_at l x)) s.value.0)
-      (λ m j. subst (λ (l : ℕ). l ≤ level x → suc l ≤ level s.value.0 → Joined (spells g start x) (sign_token (start + links_at l x) (binary_sign op) · spells g (suc (start + links_at l x)) s.value.0) m → spells g start made m) is
-        (λ low high j. (le-leb (precedence op) (level x) low, (lt-ltb (precedence op) (level s.value.0) high, j))) h right.at_least j)
-      (le_of_eq (sym is))
-      (stands_joined front right.stands))
+    (λ m j. subst (λ (l : ℕ). l ≤ level x → suc l ≤ level s.value.0 → Joined (spells g start x) (sign_token (start + links_at l x) (binary_sign op) · spells g (suc (start + links_at l x)) s.value.0) m → spells g start made m) is
+    (λ low high j. (le-leb (precedence op) (level x) low, (lt-ltb (precedence op) (level s.value.0) high, j))) h right.at_least j)
+    (le_of_eq (sym is))
+    (stands_joined front right.stands))
     (sound.chain_is start l made s.value.1 y at small (le_of_eq (sym is)) s.then_gave)
 
 chain_at-is : (g : Dialect) (limit start l : ℕ) (r : Option Readers) (x : Term) → l ≤ 7 → l ≤ level x → start + links_at l x ≤ limit → AreSound g limit (suc (start + links_at l x)) r
@@ -209,9 +205,9 @@ unfolding chain_at
 chain_at-is g limit start l r x small h within sound symbols y e = elim (picked (binary_here l symbols) _ _ (Ok y) e) [
   | inl none ↦ by_value (GoesOn g limit start l x symbols) (x, symbols) y none.1 (goes_nowhere g limit start l x symbols h)
   | inr some ↦
-    let front = binary_here-is limit (start + links_at l x) l symbols some.0 within some.1 in
-    let s = deep-is r (begins_expr g) _ (drop 1 symbols) y some.2 in
-    chain_with g limit start l s.0 x symbols some.0 y small h (subst (AreSound g limit (suc (start + links_at l x))) s.1 sound) front.0 front.1 s.2
+      let front = binary_here-is limit (start + links_at l x) l symbols some.0 within some.1 in
+      let s = deep-is r (begins_expr g) _ (drop 1 symbols) y some.2 in
+      chain_with g limit start l s.0 x symbols some.0 y small h (subst (AreSound g limit (suc (start + links_at l x))) s.1 sound) front.0 front.1 s.2
 ]
 
 -- ---- what goes on behind an expression
@@ -221,13 +217,13 @@ module _ (g : Dialect) (limit d : ℕ) (r : Option Readers) (within : d ≤ limi
   unfolding choice_at
   choice_at-is x symbols y h e = elim (chosen (begins_sign sign.Question symbols) _ _ (Ok y) e) [
     | inl c ↦
-      let a = bind_ok (deep_level g r 0 (drop 1 symbols)) _ y c.1 in
-      let t = bind_ok (behind sign.Colon a.value.1) _ y a.then_gave in
-      let b = bind_ok (deep_level g r 1 t.value) _ y t.then_gave in
-      let middle = deep_level-is g limit (suc d) r sound 0 (drop 1 symbols) a.value (omega arith) a.gave in
-      let last = deep_level-is g limit (suc d) r sound 1 t.value b.value (omega arith) b.gave in
-      by_value (GoesOn g limit d 1 x symbols) (Chosen x a.value.0 b.value.0, b.value.1) y b.then_gave
-      (goes_once g limit d 1 x (Chosen x a.value.0 b.value.0) symbols b.value.1 _ (λ m j. (le-leb 2 (level x) h, (le-leb 1 (level b.value.0) last.at_least, j))) (omega arith)
+        let a = bind_ok (deep_level g r 0 (drop 1 symbols)) _ y c.1 in
+        let t = bind_ok (behind sign.Colon a.value.1) _ y a.then_gave in
+        let b = bind_ok (deep_level g r 1 t.value) _ y t.then_gave in
+        let middle = deep_level-is g limit (suc d) r sound 0 (drop 1 symbols) a.value (omega arith) a.gave in
+        let last = deep_level-is g limit (suc d) r sound 1 t.value b.value (omega arith) b.gave in
+        by_value (GoesOn g limit d 1 x symbols) (Chosen x a.value.0 b.value.0, b.value.1) y b.then_gave
+        (goes_once g limit d 1 x (Chosen x a.value.0 b.value.0) symbols b.value.1 _ (λ m j. (le-leb 2 (level x) h, (le-leb 1 (level b.value.0) last.at_least, j))) (omega arith)
         (stands_joined (begins_sign_stands limit d sign.Question symbols within c.0)
         (stands_joined middle.stands (stands_joined (behind_stands limit d sign.Colon a.value.1 t.value within t.gave) last.stands))))
     | inr c ↦ by_value (GoesOn g limit d 1 x symbols) (x, symbols) y c.1 (goes_nowhere g limit d 1 x symbols (omega arith))
@@ -238,11 +234,11 @@ module _ (g : Dialect) (limit d : ℕ) (r : Option Readers) (within : d ≤ limi
   assignment_at-is x symbols y h e = elim (picked (assign_here g symbols) _ _ (Ok y) e) [
     | inl none ↦ by_value (GoesOn g limit d 0 x symbols) (x, symbols) y none.1 (goes_nowhere g limit d 0 x symbols (omega arith))
     | inr some ↦
-      let front = assign_here-is limit d g symbols some.0 within some.1 in
-      let b = bind_ok (deep_level g r 0 (drop 1 symbols)) _ y some.2 in
-      let right = deep_level-is g limit (suc d) r sound 0 (drop 1 symbols) b.value (omega arith) b.gave in
-      by_value (GoesOn g limit d 0 x symbols) (Assigned some.0 x b.value.0, b.value.1) y b.then_gave
-      (goes_once g limit d 0 x (Assigned some.0 x b.value.0) symbols b.value.1 _ (λ m j. (front.0, (le-leb 1 (level x) h, j))) (omega arith)
+        let front = assign_here-is limit d g symbols some.0 within some.1 in
+        let b = bind_ok (deep_level g r 0 (drop 1 symbols)) _ y some.2 in
+        let right = deep_level-is g limit (suc d) r sound 0 (drop 1 symbols) b.value (omega arith) b.gave in
+        by_value (GoesOn g limit d 0 x symbols) (Assigned some.0 x b.value.0, b.value.1) y b.then_gave
+        (goes_once g limit d 0 x (Assigned some.0 x b.value.0) symbols b.value.1 _ (λ m j. (front.0, (le-leb 1 (level x) h, j))) (omega arith)
         (stands_joined front.1 right.stands))
   ]
 
@@ -309,21 +305,21 @@ module _ (g : Dialect) (limit d : ℕ) (r : Option Readers) (within : d ≤ limi
       elim (chosen (begins_sign sign.CloseParenthesis symbols) _ _ (Ok y) e) [
         | inl c ↦ by_value Ends ([], drop 1 symbols) y c.1 (stands_joined (nothing_stands limit symbols) (begins_sign_stands limit d sign.CloseParenthesis symbols within c.0))
         | inr c ↦
-          let a = bind_ok (deep r (begins_expr g) (λ r. listed_at (r.level 0) (length symbols) []) symbols) _ y c.1 in
-          let t = bind_ok (behind sign.CloseParenthesis a.value.1) _ y a.then_gave in
-          let s = deep-is r (begins_expr g) (λ r. listed_at (r.level 0) (length symbols) []) symbols a.value a.gave in
-          by_value Ends (a.value.0, t.value) y t.then_gave
-          (stands_joined (listed_terms s.0 s.1 symbols a.value s.2) (behind_stands limit d sign.CloseParenthesis a.value.1 t.value within t.gave))
+            let a = bind_ok (deep r (begins_expr g) (λ r. listed_at (r.level 0) (length symbols) []) symbols) _ y c.1 in
+            let t = bind_ok (behind sign.CloseParenthesis a.value.1) _ y a.then_gave in
+            let s = deep-is r (begins_expr g) (λ r. listed_at (r.level 0) (length symbols) []) symbols a.value a.gave in
+            by_value Ends (a.value.0, t.value) y t.then_gave
+            (stands_joined (listed_terms s.0 s.1 symbols a.value s.2) (behind_stands limit d sign.CloseParenthesis a.value.1 t.value within t.gave))
       ]
 
   named_at-is : (n : Name) (symbols rest : List Symbol) (y : Term × List Symbol) → Stands limit (name d n) symbols rest → named_at g r n rest ≡ Ok y → PrimaryStands g limit d symbols y
   unfolding named_at
   named_at-is n symbols rest y named e = elim (chosen (is_c g && begins_sign sign.OpenParenthesis rest) _ _ (Ok y) e) [
     | inl c ↦
-      let both = both_true (is_c g) (begins_sign sign.OpenParenthesis rest) c.0 in
-      let a = bind_ok (arguments_at g r (drop 1 rest)) _ y c.1 in
-      primary (Called n (terms_of a.value.0)) y a.then_gave refl refl
-      (stands_when (is_c g) both.0 (stands_joined named
+        let both = both_true (is_c g) (begins_sign sign.OpenParenthesis rest) c.0 in
+        let a = bind_ok (arguments_at g r (drop 1 rest)) _ y c.1 in
+        primary (Called n (terms_of a.value.0)) y a.then_gave refl refl
+        (stands_when (is_c g) both.0 (stands_joined named
         (stands_joined (begins_sign_stands limit d sign.OpenParenthesis rest within both.1) (arguments_at-is (drop 1 rest) a.value a.gave))))
     | inr c ↦ primary (Named n) y c.1 refl refl named
   ]
@@ -336,8 +332,8 @@ module _ (g : Dialect) (limit d : ℕ) (r : Option Readers) (within : d ≤ limi
       let t = bind_ok (behind sign.CloseParenthesis n.value.1) _ y n.then_gave in
       primary (OldSymbol at n.value.0) y t.then_gave refl refl
       (stands_when (not (is_c g)) (ap not rules) (stands_joined (token_stands limit d (symbol.RuleWord at rule.OldSymbol) rest within)
-        (stands_joined (behind_stands limit d sign.OpenParenthesis rest o.value within o.gave)
-        (stands_joined (name_at_stands limit d o.value n.value within n.gave) (behind_stands limit d sign.CloseParenthesis n.value.1 t.value within t.gave)))))
+      (stands_joined (behind_stands limit d sign.OpenParenthesis rest o.value within o.gave)
+      (stands_joined (name_at_stands limit d o.value n.value within n.gave) (behind_stands limit d sign.CloseParenthesis n.value.1 t.value within t.gave)))))
 
   transform_at-is : (at : ℕ) (rest : List Symbol) (y : Term × List Symbol) → is_c g ≡ false → transform_at g r at rest ≡ Ok y → PrimaryStands g limit d (symbol.RuleWord at rule.Transform ∷ rest) y
   unfolding transform_at
@@ -348,8 +344,8 @@ module _ (g : Dialect) (limit d : ℕ) (r : Option Readers) (within : d ≤ limi
       let inside = deep_level-is g limit (suc d) r sound 0 o.value a.value (omega arith) a.gave in
       primary (Transformed at a.value.0) y t.then_gave refl refl
       (stands_when (not (is_c g)) (ap not rules) (stands_joined (token_stands limit d (symbol.RuleWord at rule.Transform) rest within)
-        (stands_joined (behind_stands limit d sign.OpenParenthesis rest o.value within o.gave)
-        (stands_joined inside.stands (behind_stands limit d sign.CloseParenthesis a.value.1 t.value within t.gave)))))
+      (stands_joined (behind_stands limit d sign.OpenParenthesis rest o.value within o.gave)
+      (stands_joined inside.stands (behind_stands limit d sign.CloseParenthesis a.value.1 t.value within t.gave)))))
 
   rule_at-is : (at : ℕ) (word : RuleWord) (rest : List Symbol) (y : Term × List Symbol) → is_c g ≡ false → rule_at g r at word rest ≡ Ok y → PrimaryStands g limit d (symbol.RuleWord at word ∷ rest) y
   unfolding rule_at

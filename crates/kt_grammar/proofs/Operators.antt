@@ -1,6 +1,5 @@
 -- The operator of a sign has that sign, and belongs to the dialect.
-use Rattle.std.proofs.Common.{◌≡◌, ℕ, ◌≤◌, Bool, true, false, List, [], ◌∷◌, drop, Option, Some, None, refl, sym, ap, subst, inl, inr, eqb-true, ◌==◌, ◌⊎◌}
-use Rattle.std.specs.Prelude.{if◌then◌else◌}
+use Rattle.std.proofs.Common.{◌≡◌, ℕ, ◌≤◌, true, List, ◌∷◌, drop, Option, Some, None, refl, sym, ap, subst, inl, inr, eqb-true, ◌==◌, ◌⊎◌}
 use Rattle.std.proofs.lemmas.Option.{same_Some}
 use Rattle.kt_grammar.specs.declared.sign.Sign.{Sign}
 use Rattle.kt_grammar.specs.declared.sign.Sign.TheVariants as sign
@@ -98,7 +97,7 @@ binary_here-is limit d l (symbol.Sign at s ∷ rest) op h e = elim (picked (bina
   | inl none ↦ absurd (let e : None ≡ Some op = none.1 in cc)
   | inr some ↦ elim (chosen (precedence some.0 == l) _ _ (Some op) some.2) [
     | inl c ↦ found (λ op. (precedence op ≡ l) × Stands limit (sign_token d (binary_sign op)) (symbol.Sign at s ∷ rest) rest) some.0 op c.1
-      (eqb-true (precedence some.0) l c.0, sign_is_stands limit d at s (binary_sign some.0) rest h (binary_of-is s some.0 some.1))
+        (eqb-true (precedence some.0) l c.0, sign_is_stands limit d at s (binary_sign some.0) rest h (binary_of-is s some.0 some.1))
     | inr c ↦ absurd (let e : None ≡ Some op = c.1 in cc)
   ]
 ]
