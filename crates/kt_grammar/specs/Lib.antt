@@ -8,3 +8,4 @@ pub mod Reading
 pub mod Cut
 pub mod Laws
 pub mod StandsLaws
+pub mod FaultLaws
