@@ -1,2 +1,3 @@
-mod Operators
+pub mod ExprFaults
 pub mod ExprStands
+mod Operators
