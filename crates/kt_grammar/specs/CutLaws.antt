@@ -144,3 +144,21 @@ cut-none begins limit d marks rest answer deep b =
     ap (λ c. if c then Err (TooDeep (length (symbols_of marks ++ rest))) else unexpected (symbols_of marks ++ rest)) (begins-at (λ symbols. begins symbols ≡ true) d marks rest b)
     ∙ ap (λ m. Err (TooDeep (length (symbols_of m ++ rest)))) b.is
     ∙ sym (ap (λ m. cut limit m rest answer) b.is ∙ cut-deep limit (record { symbol = b.first; depth = d }) b.others rest answer deep)
+
+-- ---- steps of a reader
+
+-- a reader that is followed by another step reads the front, and the step reads the back
+pub cut-then : {A B : Type 0} (read : List Symbol → Result A Fault) (next : A → Result B Fault) (limit : ℕ) (marks front back : List Mark) (rest : List Symbol) (x : A) (answer : Result B Fault) → marks ≡ front ++ back
+    → read (symbols_of front ++ (symbols_of back ++ rest)) ≡ cut limit front (symbols_of back ++ rest) (Ok x)
+    → next x ≡ cut limit back rest answer
+    → (read (symbols_of marks ++ rest) >>= next) ≡ cut limit marks rest answer
+cut-then read next limit marks front back rest x answer parts h k =
+    cut-joined (λ s. read s >>= next) limit marks front back rest answer parts
+    (ap (λ r. r >>= next) h ∙ cut-bind limit front (symbols_of back ++ rest) (Ok x) next ∙ ap (λ a. cut limit front (symbols_of back ++ rest) a) k)
+
+-- a reader that reads all tokens, followed by a step that reads none
+pub cut-end : {A B : Type 0} (read : List Symbol → Result A Fault) (next : A → Result B Fault) (limit : ℕ) (marks : List Mark) (rest : List Symbol) (x : A) (answer : Result B Fault)
+    → read (symbols_of marks ++ rest) ≡ cut limit marks rest (Ok x) → next x ≡ answer
+    → (read (symbols_of marks ++ rest) >>= next) ≡ cut limit marks rest answer
+cut-end read next limit marks rest x answer h k =
+    ap (λ r. r >>= next) h ∙ cut-bind limit marks rest (Ok x) next ∙ ap (λ a. cut limit marks rest a) k
