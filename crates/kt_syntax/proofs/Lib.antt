@@ -1,3 +1,5 @@
 pub mod Parts
 pub mod Declarators
 pub mod Lists
+pub mod Fronts
+pub mod Phrases
