@@ -3,3 +3,4 @@ pub mod Declarators
 pub mod Lists
 pub mod Fronts
 pub mod Phrases
+pub mod Statements
