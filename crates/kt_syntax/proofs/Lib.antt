@@ -4,3 +4,5 @@ pub mod Lists
 pub mod Fronts
 pub mod Phrases
 pub mod Statements
+pub mod Leading
+pub mod Externals

@@ -12,7 +12,7 @@ use Rattle.kt_grammar.specs.Cut.{cut}
 use Rattle.kt_grammar.specs.Laws.{Begins}
 use Rattle.kt_grammar.specs.CutLaws.{begins-at, begins-append}
 use Rattle.kt_syntax.specs.Spelling.{separated, each}
-use Rattle.kt_syntax.proofs.Parts.{part-then, part-end, token-then, none-end, signed, first-then}
+use Rattle.kt_syntax.proofs.Parts.{part-then, part-end, token-then, none-end, signed, first-then, first-joined}
 
 -- ---- lengths
 
@@ -77,20 +77,21 @@ until-more stops item limit n done marks rest x answer j h read more =
     ap (λ b. if b then Ok (done, symbols_of marks ++ rest) else (item (symbols_of marks ++ rest) >>= λ x. until_at stops item n (done ++ x.0 ∷ []) x.1)) h
     ∙ part-then item (λ x. until_at stops item n (done ++ x.0 ∷ []) x.1) limit rest answer j read more
 
--- an item that is spelled begins with a token that is no stop, and is read back
-pub record IsTurn {A : Type 0} (spelling : A → List Mark → Type 0) (item : List Symbol → Outcome A) (stops : List Symbol → Bool) (limit d : ℕ) : Type 0 where
-  pub begins : (x : A) (marks : List Mark) → spelling x marks → Begins (λ symbols. stops symbols ≡ false) d marks
+-- an item that is spelled takes a token, is no stop, and is read back
+pub record IsTurn {A : Type 0} (spelling : A → List Mark → Type 0) (item : List Symbol → Outcome A) (stops : List Symbol → Bool) (limit : ℕ) : Type 0 where
+  pub some : (x : A) (marks : List Mark) → spelling x marks → 1 ≤ length marks
+  pub first : (x : A) (marks : List Mark) (rest : List Symbol) → spelling x marks → stops (symbols_of marks ++ rest) ≡ false
   pub back : (x : A) (marks : List Mark) (rest : List Symbol) → spelling x marks → item (symbols_of marks ++ rest) ≡ cut limit marks rest (Ok (x, rest))
 
-pub each-back : {A : Type 0} (spelling : A → List Mark → Type 0) (item : List Symbol → Outcome A) (stops : List Symbol → Bool) (limit d : ℕ) → IsTurn spelling item stops limit d
+pub each-back : {A : Type 0} (spelling : A → List Mark → Type 0) (item : List Symbol → Outcome A) (stops : List Symbol → Bool) (limit : ℕ) → IsTurn spelling item stops limit
     → (xs : List A) (count : ℕ) (done : List A) (marks : List Mark) (rest : List Symbol) → each spelling xs marks → stops rest ≡ true → length marks ≤ count
     → until_at stops item count done (symbols_of marks ++ rest) ≡ cut limit marks rest (Ok (done ++ xs, rest))
-each-back spelling item stops limit d its [] count done marks rest is h le =
+each-back spelling item stops limit its [] count done marks rest is h le =
     none-end (until_at stops item count done) limit rest _ is (until-stop stops item count done rest h ∙ ap (λ l. Ok (l, rest)) (sym (append-nil done)))
-each-back spelling item stops limit d its (x ∷ xs) zero done marks rest is h le = absurd (let a = joined-length is in let b = begins-length (its.begins x is.front is.first) in omega arith)
-each-back spelling item stops limit d its (x ∷ xs) (suc n) done marks rest is h le =
+each-back spelling item stops limit its (x ∷ xs) zero done marks rest is h le = absurd (let a = joined-length is in let b = its.some x is.front is.first in omega arith)
+each-back spelling item stops limit its (x ∷ xs) (suc n) done marks rest is h le =
     until-more stops item limit n done marks rest x _ is
-    (begins-at (λ symbols. stops symbols ≡ false) d marks rest (begins-append (λ symbols. stops symbols ≡ false) d marks is.front is.back is.parts (its.begins x is.front is.first)))
+    (first-joined (λ r. stops r ≡ false) rest is (its.first x is.front (symbols_of is.back ++ rest) is.first))
     (its.back x is.front (symbols_of is.back ++ rest) is.first)
-    (each-back spelling item stops limit d its xs n (done ++ x ∷ []) is.back rest is.second h (let a = joined-length is in let b = begins-length (its.begins x is.front is.first) in omega arith)
+    (each-back spelling item stops limit its xs n (done ++ x ∷ []) is.back rest is.second h (let a = joined-length is in let b = its.some x is.front is.first in omega arith)
     ∙ ap (λ l. cut limit is.back rest (Ok (l, rest))) (append_assoc done (x ∷ []) xs))

@@ -9,12 +9,12 @@ use Rattle.kt_grammar.specs.declared.symbol.Symbol.{Symbol}
 use Rattle.kt_grammar.specs.declared.symbol.Symbol.TheVariants as symbol
 use Rattle.kt_grammar.specs.declared.tree.Name.{Name}
 use Rattle.kt_grammar.specs.declared.tree.Base.{Base}
-use Rattle.kt_grammar.specs.Marks.{Mark, Language, Joined, ◌·◌, symbols_of, token, sign, keyword, name, nothing}
+use Rattle.kt_grammar.specs.Marks.{Mark, Language, Joined, ◌·◌, symbols_of, IsShallow, token, sign, keyword, name, nothing}
 use Rattle.kt_grammar.specs.Spelling.{spells_base}
 use Rattle.kt_grammar.specs.Cursor.{◌>>=◌, Outcome, begins_sign, behind, name_at}
 use Rattle.kt_grammar.specs.Reading.{base_at}
 use Rattle.kt_grammar.specs.Cut.{cut}
-use Rattle.kt_grammar.specs.CutLaws.{symbols_of-joined, cut-then, cut-end, cut-first, cut-token, cut-shallow}
+use Rattle.kt_grammar.specs.CutLaws.{symbols_of-joined, cut-joined, cut-then, cut-end, cut-first, cut-token, cut-shallow}
 use Rattle.kt_grammar.specs.BackLaws.{sign-back, name-back, behind-sign, base-back, base-shallow}
 use Rattle.kt_syntax.specs.declared.tree.Parameter.{Parameter}
 use Rattle.kt_syntax.specs.Spelling.{parameter, maybe, pointer}
@@ -130,3 +130,14 @@ first-end P rest is h = subst (λ m. P (symbols_of m ++ rest)) (sym is) h
 
 pub first-then : {Q : List Mark → Type 0} {d : ℕ} {s : Symbol} {marks : List Mark} (P : List Symbol → Type 0) (rest : List Symbol) (j : Joined (token d s) Q marks) → P (s ∷ (symbols_of j.back ++ rest)) → P (symbols_of marks ++ rest)
 first-then P rest j h = subst (λ m. P (symbols_of m ++ rest)) (sym (j.parts ∙ ap (λ f. f ++ j.back) j.first)) h
+
+pub first-joined : {A B : List Mark → Type 0} {marks : List Mark} (P : List Symbol → Type 0) (rest : List Symbol) (j : Joined A B marks) → P (symbols_of j.front ++ (symbols_of j.back ++ rest)) → P (symbols_of marks ++ rest)
+first-joined {marks = marks} P rest j h = subst P (sym (symbols_of-joined marks j.front j.back rest j.parts)) h
+
+-- a part of which no token is too deep, and what is read behind it
+pub shallow-then : {A : Type 0} {P Q : List Mark → Type 0} {marks : List Mark} (read : List Symbol → Result A Fault) (limit : ℕ) (rest : List Symbol) (answer : Result A Fault) (j : Joined P Q marks) → IsShallow limit j.front
+    → read (symbols_of j.front ++ (symbols_of j.back ++ rest)) ≡ cut limit j.back rest answer
+    → read (symbols_of marks ++ rest) ≡ cut limit marks rest answer
+shallow-then {marks = marks} read limit rest answer j low h =
+    cut-joined read limit marks j.front j.back rest answer j.parts
+    (h ∙ sym (cut-shallow limit j.front (symbols_of j.back ++ rest) (cut limit j.back rest answer) low))
