@@ -52,7 +52,7 @@ pub name-first-then : {Q : List Mark → Type 0} {d : ℕ} {n : Name} {marks : L
 name-first-then {n = n} rest j = first-then IsNamed rest j (record { name = n; others = symbols_of j.back ++ rest; is = refl })
 
 -- a name is no star
-named-star : (rest : List Symbol) → IsNamed rest → begins_sign signs.Star rest ≡ false
+pub named-star : (rest : List Symbol) → IsNamed rest → begins_sign signs.Star rest ≡ false
 unfolding begins_sign
 named-star rest h = subst (λ r. begins_sign signs.Star r ≡ false) (sym h.is) refl
 

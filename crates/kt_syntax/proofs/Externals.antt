@@ -4,6 +4,7 @@ use Rattle.std.specs.Option.{option_map}
 use Rattle.std.proofs.Common.{inl, inr, refl, sym, ap, subst, ◌∙◌, arith, append_assoc}
 use Rattle.std.proofs.lemmas.List.{append-nil}
 use Rattle.kt_lex.specs.declared.number.Number.{Number}
+use Rattle.kt_grammar.specs.declared.fault.Fault.{Fault}
 use Rattle.kt_grammar.specs.declared.keyword.Keyword.{Keyword}
 use Rattle.kt_grammar.specs.declared.keyword.Keyword.TheVariants as keywords
 use Rattle.kt_grammar.specs.declared.sign.Sign.TheVariants as signs
@@ -12,14 +13,15 @@ use Rattle.kt_grammar.specs.declared.symbol.Symbol.TheVariants as symbol
 use Rattle.kt_grammar.specs.declared.tree.Base.{Base}
 use Rattle.kt_grammar.specs.declared.tree.Base.TheVariants as base
 use Rattle.kt_grammar.specs.declared.tree.Name.{Name}
-use Rattle.kt_grammar.specs.Marks.{Mark, Joined, ◌·◌, symbols_of, sign, keyword, name, token, nothing, optional}
+use Rattle.kt_grammar.specs.Marks.{Mark, Joined, ◌·◌, symbols_of, IsShallow, sign, keyword, name, token, nothing, optional}
 use Rattle.kt_grammar.specs.Spelling.{between, spells_base}
 use Rattle.kt_grammar.specs.Cursor.{◌>>=◌, Outcome, begins_sign, behind, name_at, listed_at, until_at}
 use Rattle.kt_grammar.specs.Reading.{begins_base}
 use Rattle.kt_grammar.specs.Cut.{cut}
 use Rattle.kt_grammar.specs.Laws.{Begins, ExprIsReadBack, ExprBegins}
-use Rattle.kt_grammar.specs.CutLaws.{cut-joined, begins-at, begins-append}
+use Rattle.kt_grammar.specs.CutLaws.{cut-joined, cut-shallow, begins-at, begins-append}
 use Rattle.kt_grammar.specs.BackLaws.{base-begins}
+use Rattle.kt_grammar.specs.StandsLaws.{same_value, shallow_within}
 use Rattle.kt_syntax.specs.declared.tree.Stars.{Stars}
 use Rattle.kt_syntax.specs.declared.tree.Pointer.{Pointer}
 use Rattle.kt_syntax.specs.declared.tree.Declarator.{Declarator}
@@ -28,10 +30,12 @@ use Rattle.kt_syntax.specs.declared.tree.GlobalDeclarator.{GlobalDeclarator}
 use Rattle.kt_syntax.specs.declared.tree.Parameter.{Parameter}
 use Rattle.kt_syntax.specs.declared.tree.Fields.{Fields}
 use Rattle.kt_syntax.specs.Tree.{Statements, Definition, Routine, External, StructMentioned, StructDefined, GlobalsDeclared, FunctionDeclared, statements_of}
+use Rattle.kt_syntax.specs.File.{IsFile, OneTree}
+use Rattle.kt_syntax.specs.Laws.{FileIsReadBack, FileIsRead}
 use Rattle.kt_syntax.specs.Spelling.{is_empty, separated, each, maybe, stars, pointer, count, declarator, constant_spelling, global, parameter, fields, entries, leading, result, parameters, noted, body, external, externals}
 use Rattle.kt_syntax.specs.Reading.{stars_at, pointer_at, declarator_at, global_behind, global_at, parameter_at, fields_at, block_behind, blocks, parameters_behind, definition_behind, body_at, function_behind, globals_behind, bare_stars, named_behind, declared_behind, void_behind, typed_at, struct_behind, struct_at, external_at, is_end, file_at}
 use Rattle.kt_syntax.proofs.Parts.{part-then, part-end, sign-then, sign-end, name-then, base-then, token-then, token-end, none-end, none-then, signed, worded, first-end, first-then, first-joined, joined-left, joined-right}
-use Rattle.kt_syntax.proofs.Declarators.{IsNamed, name-first-then, IsEnded, ended-comma, ended-semicolon, stars-then, stars-none, pointer-back, declarator-back, global_parts, global_behind-back, global-back, parameter-back}
+use Rattle.kt_syntax.proofs.Declarators.{IsNamed, name-first-then, named-star, IsEnded, ended-comma, ended-semicolon, stars-then, stars-none, pointer-back, declarator-back, global_parts, global_behind-back, global-back, parameter-back}
 use Rattle.kt_syntax.proofs.Lists.{joined-length, token-length, IsItem, separated-some, separated-back, IsTurn, each-back}
 use Rattle.kt_syntax.proofs.Fronts.{no_truth, base-entry, entry-close}
 use Rattle.kt_syntax.proofs.Phrases.{length-within}
@@ -305,3 +309,121 @@ Behind f = maybe (stars 0) f.stars · name 0 f.name · between 0 (parameters f.p
 -- with the stars as a pointer, and what is behind the opening parenthesis together
 abbrev Grouped : Routine → List Mark → Type 0
 Grouped f = maybe (pointer 0) (bare f.stars) · name 0 f.name · sign 0 signs.OpenParenthesis · Joined (Joined (parameters f.parameters) (sign 0 signs.CloseParenthesis)) (body f.body)
+
+grouped : (f : Routine) (marks : List Mark) → Behind f marks → Grouped f marks
+grouped f marks is = record {
+  front = is.front;
+  back = is.back;
+  parts = is.parts;
+  first = stars-pointer f.stars is.front is.first;
+  second = record { front = is.second.front; back = is.second.back; parts = is.second.parts; first = is.second.first; second = joined-right is.second.second };
+}
+
+-- a function with another result
+abbrev giving : Option Base → Routine → Routine
+giving r f = record { result = r; stars = f.stars; name = f.name; parameters = f.parameters; body = f.body }
+
+declared-function : ExprIsReadBack → ExprBegins → (n : ℕ) (b : Base) (f : Routine) (marks : List Mark) (rest : List Symbol) → Grouped f marks
+    → declared_behind n b (symbols_of marks ++ rest) ≡ cut n marks rest (Ok (FunctionDeclared (giving (Some b) f), rest))
+unfolding declared_behind
+declared-function back begins n b f marks rest j =
+    part-then pointer_at _ n rest _ j (pointer-back n 0 (bare f.stars) j.front (symbols_of j.back ++ rest) j.first (name-first-then rest j.second) (omega arith))
+    (name-then _ rest _ j.second (omega arith)
+        (token-then (named_behind n b (bare f.stars) f.name) rest _ (signed j.second.second) (omega arith)
+            (named-function n b f.stars f.name _ _ ∙ function_behind-back back begins n (giving (Some b) f) j.second.second.back rest j.second.second.second)))
+
+-- stars, or none, where a name follows, and what is read behind them
+maybe-stars-then : {A : Type 0} {Q : List Mark → Type 0} (limit : ℕ) (s : Option Stars) (marks : List Mark) (rest : List Symbol) (next : Option Stars × List Symbol → Result A Fault) (answer : Result A Fault) (j : Joined (maybe (stars 0) s) Q marks)
+    → IsNamed (symbols_of j.back ++ rest)
+    → next (s, symbols_of j.back ++ rest) ≡ cut limit j.back rest answer
+    → next (stars_at (symbols_of marks ++ rest)) ≡ cut limit marks rest answer
+maybe-stars-then limit None marks rest next answer j h k =
+    none-then (λ r. next (stars_at r)) limit rest answer j (ap next (stars-none (symbols_of j.back ++ rest) (named-star (symbols_of j.back ++ rest) h)) ∙ k)
+maybe-stars-then limit (Some s) marks rest next answer j h k = stars-then limit 0 s marks rest next answer j (named-star (symbols_of j.back ++ rest) h) (omega arith) k
+
+-- behind the stars of a function without a result
+abbrev void_named : ℕ → Option Stars × List Symbol → Outcome External
+void_named n s = name_at s.1 >>= λ x. behind signs.OpenParenthesis x.1 >>= λ inner. function_behind n None s.0 x.0 inner
+
+void-function : ExprIsReadBack → ExprBegins → (n : ℕ) (f : Routine) (marks : List Mark) (rest : List Symbol) → Behind f marks → void_behind n (symbols_of marks ++ rest) ≡ cut n marks rest (Ok (FunctionDeclared (giving None f), rest))
+unfolding void_behind grouped
+void-function back begins n f marks rest is =
+    let j = (grouped f marks is).second in
+    maybe-stars-then n f.stars marks rest (void_named n) _ is (name-first-then rest is.second)
+    (name-then _ rest _ j (omega arith)
+        (sign-then _ rest _ j.second (omega arith) (function_behind-back back begins n (giving None f) j.second.back rest j.second.second)))
+
+function-back : ExprIsReadBack → ExprBegins → (n : ℕ) (f : Routine) (marks : List Mark) (rest : List Symbol) → external (FunctionDeclared f) marks → external_at n (symbols_of marks ++ rest) ≡ cut n marks rest (Ok (FunctionDeclared f, rest))
+function-back back begins n f marks rest is = by_result f.result is
+  where
+    by_result : (r : Option Base) → external (FunctionDeclared (giving r f)) marks → external_at n (symbols_of marks ++ rest) ≡ cut n marks rest (Ok (FunctionDeclared (giving r f), rest))
+    by_result None is = let j = joined-left is in void-then n rest _ j (void-function back begins n f j.back rest j.second)
+    by_result (Some b) is =
+        let j = joined-left is in
+        let k = grouped f j.back j.second in
+        lead-then n b rest _ j (pointed-declared (bare f.stars) rest k) (declared-function back begins n b f j.back rest k)
+
+-- ---- files
+
+pub external-back : ExprIsReadBack → ExprBegins → (n : ℕ) (x : External) (marks : List Mark) (rest : List Symbol) → external x marks → external_at n (symbols_of marks ++ rest) ≡ cut n marks rest (Ok (x, rest))
+external-back back begins n (StructMentioned x) marks rest is = mentioned-back n x marks rest is
+external-back back begins n (StructDefined x fs) marks rest is = defined-back n x fs marks rest is
+external-back back begins n (GlobalsDeclared b gs) marks rest is = globals-back n b gs marks rest is
+external-back back begins n (FunctionDeclared f) marks rest is = function-back back begins n f marks rest is
+
+-- an external declaration takes a token
+external-some : (x : External) (marks : List Mark) → external x marks → 1 ≤ length marks
+external-some (StructMentioned x) marks is = let a = joined-length is in let b = token-length is.first.1 in omega arith
+external-some (StructDefined x fs) marks is = let a = joined-length is.1 in let b = token-length is.1.first.1 in omega arith
+external-some (GlobalsDeclared b gs) marks is =
+    let c = joined-length is in
+    let d = joined-length is.second in
+    let e = joined-length is.second.second in
+    let f = token-length is.second.second.second.1 in omega arith
+external-some (FunctionDeclared f) marks is =
+    let a = joined-length is in
+    let b = joined-length is.second in
+    let c = joined-length is.second.second in
+    let d = joined-length is.second.second.second in
+    let e = token-length is.second.second.second.first in omega arith
+
+-- where a token stands is no end
+some-end : (marks : List Mark) (rest : List Symbol) → 1 ≤ length marks → is_end (symbols_of marks ++ rest) ≡ false
+some-end [] rest h = absurd (omega arith)
+some-end (m ∷ marks) rest h = refl
+
+external-turn : ExprIsReadBack → ExprBegins → (n : ℕ) → IsTurn external (external_at n) is_end n
+external-turn back begins n = record { some = external-some; first = λ x marks rest is. some-end marks rest (external-some x marks is); back = external-back back begins n }
+
+pub file-back : ExprIsReadBack → ExprBegins → FileIsReadBack
+unfolding file_at
+file-back back begins n xs marks is =
+    ap (λ s. until_at is_end (external_at n) (length s) [] s) (sym (append-nil (symbols_of marks)))
+    ∙ each-back external (external_at n) is_end n (external-turn back begins n) xs (length (symbols_of marks ++ [])) [] marks [] is refl (length-within marks [])
+
+-- ---- one tree
+
+-- a file that is spelled within a limit is read
+pub file-read : FileIsReadBack → FileIsRead
+file-read back n xs marks is shallow = back n xs marks is ∙ cut-shallow n marks [] (Ok (xs, [])) shallow
+
+-- a depth that is no less than that of any token
+deepest : List Mark → ℕ
+deepest [] = 0
+deepest (m ∷ marks) = m.depth + deepest marks
+
+deepest-shallow : (marks : List Mark) → IsShallow (deepest marks) marks
+unfolding deepest
+deepest-shallow [] = tt
+deepest-shallow (m ∷ marks) = (omega arith, shallow_within (deepest marks) (m.depth + deepest marks) marks (omega arith) (deepest-shallow marks))
+
+-- a file that is one is read within some limit
+file-within : FileIsReadBack → (limit : ℕ) (symbols : List Symbol) (xs : List External) (f : IsFile symbols xs) → deepest f.marks ≤ limit → file_at limit symbols ≡ Ok (xs, [])
+file-within back limit symbols xs f within =
+    ap (file_at limit) (sym f.parts) ∙ file-read back limit xs f.marks f.spelled (shallow_within (deepest f.marks) limit f.marks within (deepest-shallow f.marks))
+
+pub one-tree : FileIsReadBack → OneTree
+one-tree back symbols xs ys f g =
+    let n : ℕ = deepest f.marks + deepest g.marks in
+    let e = same_value (xs, []) (ys, []) (sym (file-within back n symbols xs f (omega arith)) ∙ file-within back n symbols ys g (omega arith)) in
+    ap (λ r. r.0) e
