@@ -1,7 +1,7 @@
 -- What is spelled begins with a token that begins an expression.
-use Rattle.std.specs.Prelude.{◌≡◌, ℕ, zero, suc, ◌||◌, Bool, true, false, List, [], ◌∷◌, ◌++◌}
+use Rattle.std.specs.Prelude.{◌≡◌, ℕ, ◌||◌, true, List, [], ◌∷◌, ◌++◌}
 use Rattle.std.specs.Option.{is_some}
-use Rattle.std.proofs.Common.{refl, sym, ap, ◌∙◌}
+use Rattle.std.proofs.Common.{refl}
 use Rattle.kt_grammar.specs.declared.keyword.Keyword.TheVariants as keywords
 use Rattle.kt_grammar.specs.declared.keyword.RuleWord.TheVariants as rule
 use Rattle.kt_grammar.specs.declared.sign.Sign.TheVariants as signs
@@ -11,10 +11,9 @@ use Rattle.kt_grammar.specs.declared.operator.Dialect.{Dialect}
 use Rattle.kt_grammar.specs.declared.operator.Dialect.TheVariants.{C, Rules}
 use Rattle.kt_grammar.specs.declared.operator.PrefixOperator.{PrefixOperator}
 use Rattle.kt_grammar.specs.declared.operator.PrefixOperator.TheVariants as prefix
-use Rattle.kt_grammar.specs.Tree.{Term, Constant, Character, Text, Null, Eof, Named, Called, Parenthesised, SizeOf, RuleValue, OldSymbol, Transformed, Element, Member, Pointed, Stepped, Prefixed, Converted, Operated, Chosen, Assigned}
+use Rattle.kt_grammar.specs.Tree.{Constant, Character, Text, Null, Eof, Named, Called, Parenthesised, SizeOf, RuleValue, OldSymbol, Transformed, Element, Member, Pointed, Stepped, Prefixed, Converted, Operated, Chosen, Assigned}
 use Rattle.kt_grammar.specs.Signs.{same_sign, prefix_sign, has_prefix, prefix_of}
 use Rattle.kt_grammar.specs.Marks.{Mark}
-use Rattle.kt_grammar.specs.Spelling.{spells}
 use Rattle.kt_grammar.specs.Reading.{begins_expr}
 use Rattle.kt_grammar.specs.Laws.{Begins, ExprBegins}
 use Rattle.kt_grammar.specs.CutLaws.{begins-append, begins-token}

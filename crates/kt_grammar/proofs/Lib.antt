@@ -1,1 +1,4 @@
 pub mod Beginnings
+pub mod Fronts
+pub mod Resuming
+pub mod Back

@@ -1,26 +1,28 @@
 -- Signs, names and types that are spelled are read back.
-use Rattle.std.specs.Prelude.{◌≡◌, ℕ, zero, suc, ◌+◌, ◌≤◌, ◌==◌, Bool, true, false, List, [], ◌∷◌, ◌++◌, ◌⊎◌, length, drop, Result, Ok, Err, if◌then◌else◌}
-use Rattle.std.proofs.Common.{inl, inr, refl, sym, ap, subst, ◌∙◌, arith, append_assoc}
+use Rattle.std.specs.Prelude.{◌≡◌, ℕ, zero, suc, ◌+◌, ◌≤◌, ◌==◌, Bool, true, false, List, [], ◌∷◌, ◌++◌, ◌⊎◌, drop, Ok, if◌then◌else◌}
+use Rattle.std.proofs.Common.{inl, inr, refl, sym, ap, subst, ◌∙◌, arith}
 use Rattle.std.proofs.lemmas.Bool.Decides.{nat_tests}
-use Rattle.kt_grammar.specs.declared.fault.Fault.{Fault}
 use Rattle.kt_grammar.specs.declared.keyword.Keyword.{Keyword}
 use Rattle.kt_grammar.specs.declared.keyword.Keyword.TheVariants as keywords
 use Rattle.kt_grammar.specs.declared.sign.Sign.{Sign}
 use Rattle.kt_grammar.specs.declared.sign.Sign.TheVariants as signs
 use Rattle.kt_grammar.specs.declared.symbol.Symbol.{Symbol}
 use Rattle.kt_grammar.specs.declared.symbol.Symbol.TheVariants as symbol
+use Rattle.kt_grammar.specs.declared.operator.Dialect.{Dialect}
+use Rattle.kt_grammar.specs.declared.operator.Dialect.TheVariants.{C, Rules}
 use Rattle.kt_grammar.specs.declared.tree.Name.{Name}
 use Rattle.kt_grammar.specs.declared.tree.Base.{Base}
 use Rattle.kt_grammar.specs.declared.tree.Base.TheVariants as base
 use Rattle.kt_grammar.specs.declared.tree.TypeName.{TypeName}
-use Rattle.kt_grammar.specs.Signs.{sign_number, same_sign}
-use Rattle.kt_grammar.specs.Marks.{Mark, Joined, symbols_of, IsShallow, token, sign, keyword, name, nothing, repeated}
-use Rattle.kt_grammar.specs.Spelling.{bare_base, spells_base, spells_type}
+use Rattle.kt_grammar.specs.Tree.{Term}
+use Rattle.kt_grammar.specs.Signs.{sign_number, same_sign, step_of, assign_of, binary_of}
+use Rattle.kt_grammar.specs.Marks.{Mark, symbols_of, IsShallow, token, sign, keyword, name, nothing, repeated}
+use Rattle.kt_grammar.specs.Spelling.{spells, bare_base, spells_base, spells_type}
 use Rattle.kt_grammar.specs.Cursor.{◌>>=◌, Outcome, begins_sign, behind, name_at, count_sign, listed_at}
-use Rattle.kt_grammar.specs.Reading.{begins_base, behind_const, bare_base_at, base_at, type_at}
-use Rattle.kt_grammar.specs.Laws.{Begins}
+use Rattle.kt_grammar.specs.Reading.{begins_postfix, expr_at, begins_base, behind_const, bare_base_at, base_at, type_at}
+use Rattle.kt_grammar.specs.Laws.{Begins, needs, ExprIsReadBack}
 use Rattle.kt_grammar.specs.Cut.{cut}
-use Rattle.kt_grammar.specs.CutLaws.{symbols_of-joined, cut-kept, cut-shallow, cut-first, cut-token, cut-then, cut-end, shallow-append, begins-append, begins-token}
+use Rattle.kt_grammar.specs.CutLaws.{deepest, deepest-shallow, symbols_of-joined, cut-shallow, cut-first, cut-token, cut-then, cut-end, shallow-append, begins-append}
 
 -- ---- signs and names
 
@@ -231,4 +233,49 @@ listed-more item n done limit d marks front comma back rest a answer parts is lo
     cut-then item (λ x. if begins_sign signs.Comma x.1 then listed_at item n (done ++ x.0 ∷ []) (drop 1 x.1) else Ok (done ++ x.0 ∷ [], x.1)) limit marks front (comma ++ back) rest
     (a, symbols_of (comma ++ back) ++ rest) answer parts read
     (cut-first (λ s. if begins_sign signs.Comma s then listed_at item n (done ++ a ∷ []) (drop 1 s) else Ok (done ++ a ∷ [], s)) limit d (symbol.Sign is.0 signs.Comma) (comma ++ back) comma back rest answer refl is.1 low
-        (ap (λ b. if b then listed_at item n (done ++ a ∷ []) (symbols_of back ++ rest) else Ok (done ++ a ∷ [], symbol.Sign is.0 signs.Comma ∷ (symbols_of back ++ rest))) (begins_sign-self is.0 signs.Comma (symbols_of back ++ rest)) ∙ more))
+    (ap (λ b. if b then listed_at item n (done ++ a ∷ []) (symbols_of back ++ rest) else Ok (done ++ a ∷ [], symbol.Sign is.0 signs.Comma ∷ (symbols_of back ++ rest))) (begins_sign-self is.0 signs.Comma (symbols_of back ++ rest)) ∙ more))
+
+-- ---- expressions
+
+-- An expression that is spelled is read whole, at a limit that no token of it is deeper than.
+expr-whole : ExprIsReadBack → (g : Dialect) (d : ℕ) (x : Term) (marks : List Mark) → spells g d x marks → expr_at g (deepest marks) (symbols_of marks ++ []) ≡ Ok (x, [])
+unfolding needs
+expr-whole law g d x marks is = law g (deepest marks) d x marks [] is refl ∙ cut-shallow (d + deepest marks) marks [] (Ok (x, [])) (deepest-shallow (d + deepest marks) marks (omega arith))
+
+-- tokens spell one expression at most
+pub expr-once : ExprIsReadBack → (g : Dialect) (d : ℕ) (x y : Term) (marks : List Mark) → spells g d x marks → spells g d y marks → x ≡ y
+expr-once law g d x y marks is also = same x y (sym (expr-whole law g d x marks is) ∙ expr-whole law g d y marks also)
+  where
+    same : (x y : Term) → ◌≡◌ {A = Outcome Term} (Ok (x, [])) (Ok (y, [])) → x ≡ y
+    same x y h = let p : ◌≡◌ {A = Term × List Symbol} (x, []) (y, []) = cc in ap (λ p. p.0) p
+
+-- signs before which an expression ends
+abbrev pub closes : Sign → Bool
+closes signs.OpenBrace = true
+closes signs.CloseBrace = true
+closes signs.CloseParenthesis = true
+closes signs.CloseBracket = true
+closes signs.Semicolon = true
+closes signs.Comma = true
+closes signs.Colon = true
+closes _ = false
+
+-- before these signs no expression goes on
+pub needs-closing : (g : Dialect) (at : ℕ) (s : Sign) (rest : List Symbol) → closes s ≡ true → needs g (symbol.Sign at s ∷ rest) ≡ 0
+unfolding needs begins_postfix step_of assign_of binary_of
+needs-closing C at signs.OpenBrace rest h = refl
+needs-closing C at signs.CloseBrace rest h = refl
+needs-closing C at signs.CloseParenthesis rest h = refl
+needs-closing C at signs.CloseBracket rest h = refl
+needs-closing C at signs.Semicolon rest h = refl
+needs-closing C at signs.Comma rest h = refl
+needs-closing C at signs.Colon rest h = refl
+needs-closing C at _ rest h = absurd cc
+needs-closing Rules at signs.OpenBrace rest h = refl
+needs-closing Rules at signs.CloseBrace rest h = refl
+needs-closing Rules at signs.CloseParenthesis rest h = refl
+needs-closing Rules at signs.CloseBracket rest h = refl
+needs-closing Rules at signs.Semicolon rest h = refl
+needs-closing Rules at signs.Comma rest h = refl
+needs-closing Rules at signs.Colon rest h = refl
+needs-closing Rules at _ rest h = absurd cc

@@ -1,32 +1,31 @@
 -- What is read is what is spelled: the laws of reading expressions.
-use Rattle.std.specs.Prelude.{◌≡◌, ℕ, zero, suc, ◌+◌, ◌≤◌, true, List, [], ◌∷◌, ◌++◌, Ok, Some, None, Option, if◌then◌else◌, ◌||◌}
+use Rattle.std.specs.Prelude.{◌≡◌, ℕ, ◌+◌, true, List, ◌∷◌, ◌++◌, Ok, Some, None, if◌then◌else◌, ◌&&◌}
 use Rattle.std.specs.Option.{is_some}
 use Rattle.kt_grammar.specs.declared.operator.Dialect.{Dialect}
 use Rattle.kt_grammar.specs.declared.sign.Sign.{Sign}
 use Rattle.kt_grammar.specs.declared.sign.Sign.TheVariants as signs
 use Rattle.kt_grammar.specs.declared.symbol.Symbol.{Symbol}
 use Rattle.kt_grammar.specs.declared.symbol.Symbol.TheVariants as symbol
-use Rattle.kt_grammar.specs.declared.tree.Base.{Base}
-use Rattle.kt_grammar.specs.declared.tree.TypeName.{TypeName}
 use Rattle.kt_grammar.specs.Tree.{Term}
-use Rattle.kt_grammar.specs.Signs.{same_sign, precedence, assign_of, binary_of}
+use Rattle.kt_grammar.specs.Signs.{is_c, same_sign, precedence, assign_of, binary_of}
 use Rattle.kt_grammar.specs.Marks.{Mark, symbols_of, IsShallow}
-use Rattle.kt_grammar.specs.Spelling.{spells, spells_base, spells_type}
-use Rattle.kt_grammar.specs.Cursor.{Outcome, begins_sign}
-use Rattle.kt_grammar.specs.Reading.{begins_base, begins_expr, begins_postfix, base_at, expr_at}
+use Rattle.kt_grammar.specs.Spelling.{spells}
+use Rattle.kt_grammar.specs.Reading.{begins_expr, begins_postfix, expr_at}
 use Rattle.kt_grammar.specs.Cut.{cut}
 
 -- the level that an expression needs to be the left operand of a binary operator; 0 where the sign is none
 abbrev pub binary_needs : Sign → ℕ
 binary_needs s = elim (binary_of s) as (λ _. ℕ) [ None ↦ 0 | (Some op) ↦ precedence op ]
 
--- the level that an expression needs to be an operand of the operator that stands behind it; 0 where none stands there
+-- The level that an expression needs to be an operand of the operator that stands behind it; 0 where none stands there.
+-- Behind a name an opening parenthesis is a call's, in C, and no expression stands before one: 10, above all levels.
 unfoldable pub needs : Dialect → List Symbol → ℕ
 needs g (symbol.Sign at s ∷ rest) =
     if begins_postfix g (symbol.Sign at s ∷ rest) then 9
+    else (if is_c g && same_sign s signs.OpenParenthesis then 10
     else (if same_sign s signs.Question then 2
     else (if is_some (assign_of g s) then 1
-    else binary_needs s))
+    else binary_needs s)))
 needs g _ = 0
 
 -- an expression that is spelled is read back, unless a token of it is too deep

@@ -3,6 +3,7 @@
 
 mod fault;
 mod keyword;
+mod laws;
 mod operator;
 mod sign;
 mod symbol;
@@ -11,6 +12,7 @@ mod word;
 
 pub use fault::Fault;
 pub use keyword::{Keyword, RuleWord};
+pub use laws::expr_laws;
 pub use operator::{AssignOperator, BinaryOperator, Dialect, PrefixOperator, StepOperator};
 pub use sign::Sign;
 pub use symbol::Symbol;
