@@ -19,9 +19,9 @@ use Rattle.kt_grammar.specs.Cursor.{◌>>=◌, Outcome, begins_sign, behind, nam
 use Rattle.kt_grammar.specs.Reading.{begins_base}
 use Rattle.kt_grammar.specs.Cut.{cut}
 use Rattle.kt_grammar.specs.Laws.{Begins, ExprIsReadBack, ExprBegins}
-use Rattle.kt_grammar.specs.CutLaws.{cut-joined, cut-shallow, begins-at, begins-append}
+use Rattle.kt_grammar.specs.CutLaws.{cut-joined, cut-shallow, deepest, deepest-shallow, begins-at, begins-append}
 use Rattle.kt_grammar.specs.BackLaws.{base-begins}
-use Rattle.kt_grammar.specs.StandsLaws.{same_value, shallow_within}
+use Rattle.kt_grammar.specs.StandsLaws.{same_value}
 use Rattle.kt_syntax.specs.declared.tree.Stars.{Stars}
 use Rattle.kt_syntax.specs.declared.tree.Pointer.{Pointer}
 use Rattle.kt_syntax.specs.declared.tree.Declarator.{Declarator}
@@ -407,20 +407,10 @@ file-back back begins n xs marks is =
 pub file-read : FileIsReadBack → FileIsRead
 file-read back n xs marks is shallow = back n xs marks is ∙ cut-shallow n marks [] (Ok (xs, [])) shallow
 
--- a depth that is no less than that of any token
-deepest : List Mark → ℕ
-deepest [] = 0
-deepest (m ∷ marks) = m.depth + deepest marks
-
-deepest-shallow : (marks : List Mark) → IsShallow (deepest marks) marks
-unfolding deepest
-deepest-shallow [] = tt
-deepest-shallow (m ∷ marks) = (omega arith, shallow_within (deepest marks) (m.depth + deepest marks) marks (omega arith) (deepest-shallow marks))
-
 -- a file that is one is read within some limit
 file-within : FileIsReadBack → (limit : ℕ) (symbols : List Symbol) (xs : List External) (f : IsFile symbols xs) → deepest f.marks ≤ limit → file_at limit symbols ≡ Ok (xs, [])
 file-within back limit symbols xs f within =
-    ap (file_at limit) (sym f.parts) ∙ file-read back limit xs f.marks f.spelled (shallow_within (deepest f.marks) limit f.marks within (deepest-shallow f.marks))
+    ap (file_at limit) (sym f.parts) ∙ file-read back limit xs f.marks f.spelled (deepest-shallow limit f.marks within)
 
 pub one-tree : FileIsReadBack → OneTree
 one-tree back symbols xs ys f g =

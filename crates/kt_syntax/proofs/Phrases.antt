@@ -1,7 +1,6 @@
 -- Declarations, conditions and the parts between the parentheses of `for` that are spelled are read back.
 use Rattle.std.specs.Prelude.{◌≡◌, ℕ, zero, suc, ◌+◌, ◌≤◌, ◌<◌, Bool, true, false, List, [], ◌∷◌, ◌++◌, length, drop, Option, Some, None, Result, Ok, Err, if◌then◌else◌}
 use Rattle.std.proofs.Common.{refl, sym, ap, subst, ◌∙◌, arith}
-use Rattle.std.proofs.lemmas.List.{length-append}
 use Rattle.kt_grammar.specs.declared.operator.Dialect.TheVariants.{C}
 use Rattle.kt_grammar.specs.declared.sign.Sign.{Sign}
 use Rattle.kt_grammar.specs.declared.sign.Sign.TheVariants as signs
@@ -15,7 +14,7 @@ use Rattle.kt_grammar.specs.Cursor.{◌>>=◌, Outcome, begins_sign, behind, lis
 use Rattle.kt_grammar.specs.Reading.{begins_base, begins_expr, begins_postfix, expr_at}
 use Rattle.kt_grammar.specs.Cut.{cut}
 use Rattle.kt_grammar.specs.Laws.{needs, Begins, ExprIsReadBack, ExprBegins}
-use Rattle.kt_grammar.specs.CutLaws.{begins-at, begins-append, cut-none, symbols_of-length}
+use Rattle.kt_grammar.specs.CutLaws.{begins-at, begins-append, cut-none, symbols_of-rest}
 use Rattle.kt_grammar.specs.BackLaws.{begins_sign-self, base-begins}
 use Rattle.kt_syntax.specs.Tree.{Local, Declaration, Start, NoStart, Declares, Evaluates}
 use Rattle.kt_syntax.specs.Spelling.{maybe, local, declaration, condition, for_start}
@@ -27,7 +26,7 @@ use Rattle.kt_syntax.proofs.Fronts.{expr-semicolon, expr-close, expr-base, base-
 
 -- as many symbols as tokens, or more with a rest
 pub length-within : (marks : List Mark) (rest : List Symbol) → length marks ≤ length (symbols_of marks ++ rest)
-length-within marks rest = let a = length-append (symbols_of marks) rest in let b = symbols_of-length marks in omega arith
+length-within marks rest = let e = symbols_of-rest marks rest in omega arith
 
 -- a part and the sign behind it
 abbrev pub ended : {X A : Type 0} → (List Symbol → Outcome X) → Sign → (X → A) → List Symbol → Outcome A
