@@ -1,23 +1,19 @@
 -- Declarators that are spelled are read back.
-use Rattle.std.specs.Prelude.{◌≡◌, ℕ, zero, suc, ◌+◌, ◌-◌, ◌≤◌, nat_le, Bool, true, false, List, [], ◌∷◌, ◌++◌, length, drop, Option, Some, None, Result, Ok, Err, if◌then◌else◌}
-use Rattle.std.specs.Option.{option_map}
-use Rattle.std.proofs.Common.{refl, sym, ap, subst, ◌∙◌, arith, append_assoc}
+use Rattle.std.specs.Prelude.{◌≡◌, ℕ, suc, ◌+◌, ◌-◌, ◌≤◌, false, List, ◌∷◌, ◌++◌, drop, Option, Some, None, Result, Ok}
+use Rattle.std.proofs.Common.{refl, sym, ap, subst, ◌∙◌, arith}
 use Rattle.std.proofs.lemmas.Bool.Decides.{nat_tests}
 use Rattle.kt_lex.specs.declared.number.Number.{Number}
 use Rattle.kt_grammar.specs.declared.fault.Fault.{Fault}
-use Rattle.kt_grammar.specs.declared.keyword.Keyword.{Keyword}
-use Rattle.kt_grammar.specs.declared.keyword.Keyword.TheVariants as keywords
 use Rattle.kt_grammar.specs.declared.operator.Dialect.TheVariants.{C}
-use Rattle.kt_grammar.specs.declared.sign.Sign.{Sign}
 use Rattle.kt_grammar.specs.declared.sign.Sign.TheVariants as signs
 use Rattle.kt_grammar.specs.declared.symbol.Symbol.{Symbol}
 use Rattle.kt_grammar.specs.declared.symbol.Symbol.TheVariants as symbol
 use Rattle.kt_grammar.specs.declared.tree.Name.{Name}
-use Rattle.kt_grammar.specs.Signs.{same_sign, step_of, assign_of, binary_of}
+use Rattle.kt_grammar.specs.Signs.{step_of, assign_of, binary_of}
 use Rattle.kt_grammar.specs.Tree.{Term}
-use Rattle.kt_grammar.specs.Marks.{Mark, Joined, ◌·◌, symbols_of, IsShallow, token, sign, keyword, name, nothing, repeated}
+use Rattle.kt_grammar.specs.Marks.{Mark, Joined, ◌·◌, symbols_of, IsShallow, token, sign, name}
 use Rattle.kt_grammar.specs.Spelling.{between, spells}
-use Rattle.kt_grammar.specs.Cursor.{◌>>=◌, Outcome, begins_sign, behind, name_at, count_sign}
+use Rattle.kt_grammar.specs.Cursor.{begins_sign, count_sign}
 use Rattle.kt_grammar.specs.Reading.{expr_at, begins_postfix}
 use Rattle.kt_grammar.specs.Cut.{cut}
 use Rattle.kt_grammar.specs.Laws.{needs, ExprIsReadBack}
@@ -35,7 +31,7 @@ use Rattle.kt_syntax.specs.declared.tree.Parameter.{Parameter}
 use Rattle.kt_syntax.specs.Tree.{Local}
 use Rattle.kt_syntax.specs.Spelling.{maybe, number, stars, extent_name, extent_spelling, pointer, count, declarator, constant_spelling, global, parameter, local}
 use Rattle.kt_syntax.specs.Reading.{stars_at, extent_name_at, extent_at, pointer_behind, pointer_at, count_behind, count_at, extent_behind, declarator_behind, declarator_at, negative_at, constant_at, initial_at, global_behind, global_at, parameter_at, value_at, local_at}
-use Rattle.kt_syntax.proofs.Parts.{part-then, part-end, sign-then, sign-end, name-then, name-end, base-then, token-then, token-end, none-end, none-then, signed, worded, first-end, first-then, joined-left, joined-right}
+use Rattle.kt_syntax.proofs.Parts.{part-then, part-end, sign-then, sign-end, name-then, name-end, base-then, token-then, token-end, none-end, signed, worded, first-end, first-then, joined-right}
 
 -- ---- pointers
 
@@ -92,7 +88,7 @@ extent_between-back : (limit d : ℕ) (e : Extent) (marks : List Mark) (rest : L
 extent_between-back limit d e marks rest is low =
     sign-then _ rest _ is low
     (part-then extent_name_at _ limit rest _ is.second (extent_name-back limit d e is.second.front (symbols_of is.second.back ++ rest) is.second.first low)
-        (sign-end _ is.second.second low refl))
+    (sign-end _ is.second.second low refl))
 
 extent-back : (limit d : ℕ) (e : Option Extent) (marks : List Mark) (rest : List Symbol) → maybe (extent_spelling d) e marks → IsNamed rest → d ≤ limit → extent_at (symbols_of marks ++ rest) ≡ cut limit marks rest (Ok (e, rest))
 unfolding extent_at
@@ -159,7 +155,7 @@ unfolding declarator_at
 declarator-back limit d x marks rest is h low =
     part-then pointer_at _ limit rest _ is (pointer-back limit d x.pointer is.front (symbols_of is.back ++ rest) is.first (name-first-then rest is.second) low)
     (name-then _ rest _ is.second low
-        (part-end count_at _ limit is.second.back rest (count-back limit d x.count is.second.back rest is.second.second h low) refl))
+    (part-end count_at _ limit is.second.back rest (count-back limit d x.count is.second.back rest is.second.second h low) refl))
 
 -- ---- globals
 
@@ -218,7 +214,7 @@ unfolding parameter_at
 parameter-back limit d p marks rest is low =
     base-then _ rest _ is low
     (part-then pointer_at _ limit rest _ is.second (pointer-back limit d p.pointer is.second.front (symbols_of is.second.back ++ rest) is.second.first (name-first rest is.second.second) low)
-        (name-end _ is.second.second low refl))
+    (name-end _ is.second.second low refl))
 
 value-back : ExprIsReadBack → (n d : ℕ) (v : Option Term) (marks : List Mark) (rest : List Symbol) → maybe (λ e. sign d signs.Assign · spells C d e) v marks → IsEnded rest
     → value_at n (symbols_of marks ++ rest) ≡ cut (d + n) marks rest (Ok (v, rest))
@@ -233,4 +229,4 @@ local-back back n d l marks rest is h =
     let low : d ≤ d + n = omega arith in
     part-then pointer_at _ (d + n) rest _ is (pointer-back (d + n) d l.pointer is.front (symbols_of is.back ++ rest) is.first (name-first-then rest is.second) low)
     (name-then _ rest _ is.second low
-        (part-end (value_at n) _ (d + n) is.second.back rest (value-back back n d l.initial is.second.back rest is.second.second h) refl))
+    (part-end (value_at n) _ (d + n) is.second.back rest (value-back back n d l.initial is.second.back rest is.second.second h) refl))

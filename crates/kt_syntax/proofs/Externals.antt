@@ -1,11 +1,10 @@
 -- External declarations that are spelled are read back.
-use Rattle.std.specs.Prelude.{◌≡◌, ℕ, zero, suc, ◌+◌, ◌≤◌, Bool, true, false, not, List, [], ◌∷◌, ◌++◌, ◌⊎◌, length, drop, Option, Some, None, Result, Ok, Err, if◌then◌else◌}
+use Rattle.std.specs.Prelude.{◌≡◌, ℕ, ◌+◌, ◌≤◌, Bool, true, false, List, [], ◌∷◌, ◌++◌, ◌⊎◌, length, drop, Option, Some, None, Result, Ok, if◌then◌else◌}
 use Rattle.std.specs.Option.{option_map}
-use Rattle.std.proofs.Common.{inl, inr, refl, sym, ap, subst, ◌∙◌, arith, append_assoc}
+use Rattle.std.proofs.Common.{inl, inr, refl, sym, ap, subst, ◌∙◌, arith}
 use Rattle.std.proofs.lemmas.List.{append-nil}
 use Rattle.kt_lex.specs.declared.number.Number.{Number}
 use Rattle.kt_grammar.specs.declared.fault.Fault.{Fault}
-use Rattle.kt_grammar.specs.declared.keyword.Keyword.{Keyword}
 use Rattle.kt_grammar.specs.declared.keyword.Keyword.TheVariants as keywords
 use Rattle.kt_grammar.specs.declared.sign.Sign.TheVariants as signs
 use Rattle.kt_grammar.specs.declared.symbol.Symbol.{Symbol}
@@ -13,12 +12,12 @@ use Rattle.kt_grammar.specs.declared.symbol.Symbol.TheVariants as symbol
 use Rattle.kt_grammar.specs.declared.tree.Base.{Base}
 use Rattle.kt_grammar.specs.declared.tree.Base.TheVariants as base
 use Rattle.kt_grammar.specs.declared.tree.Name.{Name}
-use Rattle.kt_grammar.specs.Marks.{Mark, Joined, ◌·◌, symbols_of, IsShallow, sign, keyword, name, token, nothing, optional}
-use Rattle.kt_grammar.specs.Spelling.{between, spells_base}
+use Rattle.kt_grammar.specs.Marks.{Mark, Joined, ◌·◌, symbols_of, sign, keyword, name, token, nothing}
+use Rattle.kt_grammar.specs.Spelling.{between}
 use Rattle.kt_grammar.specs.Cursor.{◌>>=◌, Outcome, begins_sign, behind, name_at, listed_at, until_at}
 use Rattle.kt_grammar.specs.Reading.{begins_base}
 use Rattle.kt_grammar.specs.Cut.{cut}
-use Rattle.kt_grammar.specs.Laws.{Begins, ExprIsReadBack, ExprBegins}
+use Rattle.kt_grammar.specs.Laws.{ExprIsReadBack, ExprBegins}
 use Rattle.kt_grammar.specs.CutLaws.{cut-joined, cut-shallow, deepest, deepest-shallow, begins-at, begins-append}
 use Rattle.kt_grammar.specs.BackLaws.{base-begins}
 use Rattle.kt_grammar.specs.StandsLaws.{same_value}
@@ -29,14 +28,14 @@ use Rattle.kt_syntax.specs.declared.tree.Constant.{Constant}
 use Rattle.kt_syntax.specs.declared.tree.GlobalDeclarator.{GlobalDeclarator}
 use Rattle.kt_syntax.specs.declared.tree.Parameter.{Parameter}
 use Rattle.kt_syntax.specs.declared.tree.Fields.{Fields}
-use Rattle.kt_syntax.specs.Tree.{Statements, Definition, Routine, External, StructMentioned, StructDefined, GlobalsDeclared, FunctionDeclared, statements_of}
+use Rattle.kt_syntax.specs.Tree.{Statements, Definition, Routine, External, StructMentioned, StructDefined, GlobalsDeclared, FunctionDeclared}
 use Rattle.kt_syntax.specs.File.{IsFile, OneTree}
 use Rattle.kt_syntax.specs.Laws.{FileIsReadBack, FileIsRead}
-use Rattle.kt_syntax.specs.Spelling.{is_empty, separated, each, maybe, stars, pointer, count, declarator, constant_spelling, global, parameter, fields, entries, leading, result, parameters, noted, body, external, externals}
-use Rattle.kt_syntax.specs.Reading.{stars_at, pointer_at, declarator_at, global_behind, global_at, parameter_at, fields_at, block_behind, blocks, parameters_behind, definition_behind, body_at, function_behind, globals_behind, bare_stars, named_behind, declared_behind, void_behind, typed_at, struct_behind, struct_at, external_at, is_end, file_at}
-use Rattle.kt_syntax.proofs.Parts.{part-then, part-end, sign-then, sign-end, name-then, base-then, token-then, token-end, none-end, none-then, signed, worded, first-end, first-then, first-joined, joined-left, joined-right}
+use Rattle.kt_syntax.specs.Spelling.{separated, each, maybe, stars, pointer, count, declarator, constant_spelling, global, parameter, fields, entries, parameters, noted, body, external}
+use Rattle.kt_syntax.specs.Reading.{stars_at, pointer_at, declarator_at, global_behind, global_at, parameter_at, fields_at, block_behind, blocks, parameters_behind, definition_behind, body_at, function_behind, globals_behind, bare_stars, named_behind, declared_behind, void_behind, struct_behind, struct_at, external_at, is_end, file_at}
+use Rattle.kt_syntax.proofs.Parts.{part-then, part-end, sign-then, sign-end, name-then, base-then, token-then, token-end, none-then, signed, worded, first-end, first-then, first-joined, joined-left, joined-right}
 use Rattle.kt_syntax.proofs.Declarators.{IsNamed, name-first-then, named-star, IsEnded, ended-comma, ended-semicolon, stars-then, stars-none, pointer-back, declarator-back, global_parts, global_behind-back, global-back, parameter-back}
-use Rattle.kt_syntax.proofs.Lists.{joined-length, token-length, IsItem, separated-some, separated-back, IsTurn, each-back}
+use Rattle.kt_syntax.proofs.Lists.{joined-length, token-length, IsItem, separated-back, IsTurn, each-back}
 use Rattle.kt_syntax.proofs.Fronts.{no_truth, base-entry, entry-close}
 use Rattle.kt_syntax.proofs.Phrases.{length-within}
 use Rattle.kt_syntax.proofs.Statements.{list_of, statements_of-list, block-back}
@@ -60,9 +59,9 @@ fields-back limit d f marks rest is low =
     let j = is.second in
     base-then _ rest _ is low
     (part-then (listed_at declarator_at (length (symbols_of is.back ++ rest)) []) _ limit rest _ j
-        (separated-back (declarator d) declarator_at IsEnded limit d (declarator-item limit d low) low f.declarators (length (symbols_of is.back ++ rest)) [] j.front (symbols_of j.back ++ rest) j.first
-            (first-end IsEnded rest j.second.1 (ended-semicolon _ _)) (first-end (λ r. begins_sign signs.Comma r ≡ false) rest j.second.1 refl) (front-within j rest))
-        (sign-end _ j.second low refl))
+    (separated-back (declarator d) declarator_at IsEnded limit d (declarator-item limit d low) low f.declarators (length (symbols_of is.back ++ rest)) [] j.front (symbols_of j.back ++ rest) j.first
+    (first-end IsEnded rest j.second.1 (ended-semicolon _ _)) (first-end (λ r. begins_sign signs.Comma r ≡ false) rest j.second.1 refl) (front-within j rest))
+    (sign-end _ j.second low refl))
 
 fields-some : (f : Fields) (marks : List Mark) → fields 0 f marks → 1 ≤ length marks
 fields-some f marks is = let a = joined-length is in let b = joined-length is.second in let c = token-length is.second.second.1 in omega arith
@@ -84,9 +83,9 @@ struct_behind-back n x f fs marks rest is =
     let l = k.second in
     part-then fields_at _ n rest _ j (fields-back n 0 f j.front (symbols_of j.back ++ rest) j.first (omega arith))
     (part-then (until_at (begins_sign signs.CloseBrace) fields_at (length (symbols_of j.back ++ rest)) (f ∷ [])) _ n rest _ k
-        (each-back (fields 0) fields_at (begins_sign signs.CloseBrace) n (fields-turn n) fs (length (symbols_of j.back ++ rest)) (f ∷ []) k.front (symbols_of k.back ++ rest) k.first
-            (first-then (λ r. begins_sign signs.CloseBrace r ≡ true) rest (signed l) refl) (front-within k rest))
-        (token-then (λ s. behind signs.Semicolon (drop 1 s) >>= λ r. the_struct x (f ∷ fs) r) rest _ (signed l) (omega arith) (sign-end _ l.second (omega arith) refl)))
+    (each-back (fields 0) fields_at (begins_sign signs.CloseBrace) n (fields-turn n) fs (length (symbols_of j.back ++ rest)) (f ∷ []) k.front (symbols_of k.back ++ rest) k.first
+    (first-then (λ r. begins_sign signs.CloseBrace r ≡ true) rest (signed l) refl) (front-within k rest))
+    (token-then (λ s. behind signs.Semicolon (drop 1 s) >>= λ r. the_struct x (f ∷ fs) r) rest _ (signed l) (omega arith) (sign-end _ l.second (omega arith) refl)))
   where
     the_struct : Name → List Fields → List Symbol → Outcome External
     the_struct x fs r = Ok (StructDefined x fs, r)
@@ -103,7 +102,7 @@ unfolding external_at struct_at begins_sign
 mentioned-back n x marks rest is =
     token-then (external_at n) rest _ (worded is) (omega arith)
     (name-then (λ x. named_struct n x.0 x.1) rest _ is.second (omega arith)
-        (token-end (named_struct n x) rest _ is.second.second.1 (omega arith) refl))
+    (token-end (named_struct n x) rest _ is.second.second.1 (omega arith) refl))
 
 defined-back : (n : ℕ) (x : Name) (fs : List Fields) (marks : List Mark) (rest : List Symbol) → external (StructDefined x fs) marks → external_at n (symbols_of marks ++ rest) ≡ cut n marks rest (Ok (StructDefined x fs, rest))
 unfolding external_at struct_at begins_sign
@@ -113,7 +112,7 @@ defined-back n x (f ∷ fs) marks rest is =
     let k = j.second in
     token-then (external_at n) rest _ (worded j) (omega arith)
     (name-then (λ x. named_struct n x.0 x.1) rest _ k (omega arith)
-        (token-then (named_struct n x) rest _ (signed k.second) (omega arith) (struct_behind-back n x f fs k.second.back rest k.second.second)))
+    (token-then (named_struct n x) rest _ (signed k.second) (omega arith) (struct_behind-back n x f fs k.second.back rest k.second.second)))
 
 -- ---- what declarators begin with
 
@@ -150,7 +149,7 @@ tail-parenthesis d None (Some c) marks rest j h =
 tail-parenthesis d None None marks rest j h =
     first-joined (λ r. begins_sign signs.OpenParenthesis r ≡ false) rest j
     (subst (λ m. begins_sign signs.OpenParenthesis (symbols_of m ++ (symbols_of j.back ++ rest)) ≡ false) (sym j.first)
-        (subst (λ m. begins_sign signs.OpenParenthesis (symbols_of m ++ rest) ≡ false) (sym j.second) h))
+    (subst (λ m. begins_sign signs.OpenParenthesis (symbols_of m ++ rest) ≡ false) (sym j.second) h))
 
 -- where no parenthesis follows the name there are globals
 named-global : (n : ℕ) (b : Base) (p : Option Pointer) (x : Name) (symbols : List Symbol) → begins_sign signs.OpenParenthesis symbols ≡ false
@@ -158,10 +157,11 @@ named-global : (n : ℕ) (b : Base) (p : Option Pointer) (x : Name) (symbols : L
 unfolding named_behind
 named-global n b p x symbols h = whichever (bare_stars p)
   where
-    whichever : (o : Option (Option Stars)) → (elim o as (λ _. Outcome External)
-        [ None ↦ global_behind p x symbols >>= λ g. globals_behind b g.0 g.1
-        | (Some stars) ↦ if begins_sign signs.OpenParenthesis symbols then function_behind n (Some b) stars x (drop 1 symbols)
-            else (global_behind p x symbols >>= λ g. globals_behind b g.0 g.1) ])
+    whichever : (o : Option (Option Stars)) → (elim o as (λ _. Outcome External) [
+      | None ↦ global_behind p x symbols >>= λ g. globals_behind b g.0 g.1
+      | (Some stars) ↦ if begins_sign signs.OpenParenthesis symbols then function_behind n (Some b) stars x (drop 1 symbols)
+          else (global_behind p x symbols >>= λ g. globals_behind b g.0 g.1)
+    ])
         ≡ (global_behind p x symbols >>= λ g. globals_behind b g.0 g.1)
     whichever None = refl
     whichever (Some stars) = rw h refl
@@ -175,8 +175,8 @@ first-global n b g marks rest answer is ends h k =
     let j = global_parts 0 g marks is in
     part-then pointer_at _ n rest _ j (pointer-back n 0 g.declarator.pointer j.front (symbols_of j.back ++ rest) j.first (name-first-then rest j.second) (omega arith))
     (name-then _ rest _ j.second (omega arith)
-        (named-global n b g.declarator.pointer g.declarator.name (symbols_of j.second.back ++ rest) (tail-parenthesis 0 g.declarator.count g.initial j.second.back rest j.second.second h)
-        ∙ part-end (global_behind g.declarator.pointer g.declarator.name) _ n j.second.back rest (global_behind-back n 0 g j.second.back rest j.second.second ends (omega arith)) k))
+    (named-global n b g.declarator.pointer g.declarator.name (symbols_of j.second.back ++ rest) (tail-parenthesis 0 g.declarator.count g.initial j.second.back rest j.second.second h)
+    ∙ part-end (global_behind g.declarator.pointer g.declarator.name) _ n j.second.back rest (global_behind-back n 0 g j.second.back rest j.second.second ends (omega arith)) k))
 
 declared-globals : (n : ℕ) (b : Base) (gs : List GlobalDeclarator) (marks : List Mark) (rest : List Symbol) → Joined (separated 0 (global 0) gs) (sign 0 signs.Semicolon) marks
     → declared_behind n b (symbols_of marks ++ rest) ≡ cut n marks rest (Ok (GlobalsDeclared b gs, rest))
@@ -185,18 +185,18 @@ declared-globals n b [] marks rest is = absurd is.first
 declared-globals n b (g ∷ []) marks rest is =
     cut-joined (declared_behind n b) n marks is.front is.back rest _ is.parts
     (first-global n b g is.front (symbols_of is.back ++ rest) _ is.first (first-end IsEnded rest is.second.1 (ended-semicolon _ _)) (first-end (λ r. begins_sign signs.OpenParenthesis r ≡ false) rest is.second.1 refl)
-        (token-end (globals_behind b g) rest _ is.second.1 (omega arith) refl))
+    (token-end (globals_behind b g) rest _ is.second.1 (omega arith) refl))
 declared-globals n b (g ∷ h ∷ gs) marks rest is =
     let j = joined-right is in
     let k = joined-right j.second in
     cut-joined (declared_behind n b) n marks j.front j.back rest _ j.parts
     (first-global n b g j.front (symbols_of j.back ++ rest) _ j.first (first-then IsEnded rest (signed k) (ended-comma _ _)) (first-then (λ r. begins_sign signs.OpenParenthesis r ≡ false) rest (signed k) refl)
-        (token-then (globals_behind b g) rest _ (signed k) (omega arith)
-            (part-then (listed_at global_at (length (symbol.Sign k.first.0 signs.Comma ∷ (symbols_of k.back ++ rest))) (g ∷ [])) _ n rest _ k.second
-                (separated-back (global 0) global_at IsEnded n 0 (global-item n) (omega arith) (h ∷ gs) (length (symbol.Sign k.first.0 signs.Comma ∷ (symbols_of k.back ++ rest))) (g ∷ []) k.second.front (symbols_of k.second.back ++ rest) k.second.first
-                    (first-end IsEnded rest k.second.second.1 (ended-semicolon _ _)) (first-end (λ r. begins_sign signs.Comma r ≡ false) rest k.second.second.1 refl)
-                    (let a = front-within k.second rest in omega arith))
-                (sign-end _ k.second.second (omega arith) refl))))
+    (token-then (globals_behind b g) rest _ (signed k) (omega arith)
+    (part-then (listed_at global_at (length (symbol.Sign k.first.0 signs.Comma ∷ (symbols_of k.back ++ rest))) (g ∷ [])) _ n rest _ k.second
+    (separated-back (global 0) global_at IsEnded n 0 (global-item n) (omega arith) (h ∷ gs) (length (symbol.Sign k.first.0 signs.Comma ∷ (symbols_of k.back ++ rest))) (g ∷ []) k.second.front (symbols_of k.second.back ++ rest) k.second.first
+    (first-end IsEnded rest k.second.second.1 (ended-semicolon _ _)) (first-end (λ r. begins_sign signs.Comma r ≡ false) rest k.second.second.1 refl)
+    (let a = front-within k.second rest in omega arith))
+    (sign-end _ k.second.second (omega arith) refl))))
 
 globals-declared : (b : Base) (gs : List GlobalDeclarator) (marks : List Mark) (rest : List Symbol) → Joined (separated 0 (global 0) gs) (sign 0 signs.Semicolon) marks → IsDeclared (symbols_of marks ++ rest)
 globals-declared b [] marks rest is = absurd is.first
@@ -257,7 +257,7 @@ parameters-back n (p ∷ ps) marks rest is =
     parameters_behind-base (symbols_of marks ++ rest) (first-joined (λ r. begins_base r ≡ true) rest is (parameters-first p ps is.front (symbols_of is.back ++ rest) is.first))
     ∙ part-then (listed_at parameter_at (length (symbols_of marks ++ rest)) []) _ n rest _ is
     (separated-back (parameter 0) parameter_at (λ r. Unit {0}) n 0 (parameter-item n) (omega arith) (p ∷ ps) (length (symbols_of marks ++ rest)) [] is.front (symbols_of is.back ++ rest) is.first tt
-        (first-end (λ r. begins_sign signs.Comma r ≡ false) rest is.second.1 refl) (front-within is rest))
+    (first-end (λ r. begins_sign signs.Comma r ≡ false) rest is.second.1 refl) (front-within is rest))
     (sign-end _ is.second (omega arith) refl)
 
 -- behind the opening brace of a function's body
@@ -329,8 +329,8 @@ unfolding declared_behind
 declared-function back begins n b f marks rest j =
     part-then pointer_at _ n rest _ j (pointer-back n 0 (bare f.stars) j.front (symbols_of j.back ++ rest) j.first (name-first-then rest j.second) (omega arith))
     (name-then _ rest _ j.second (omega arith)
-        (token-then (named_behind n b (bare f.stars) f.name) rest _ (signed j.second.second) (omega arith)
-            (named-function n b f.stars f.name _ _ ∙ function_behind-back back begins n (giving (Some b) f) j.second.second.back rest j.second.second.second)))
+    (token-then (named_behind n b (bare f.stars) f.name) rest _ (signed j.second.second) (omega arith)
+    (named-function n b f.stars f.name _ _ ∙ function_behind-back back begins n (giving (Some b) f) j.second.second.back rest j.second.second.second)))
 
 -- stars, or none, where a name follows, and what is read behind them
 maybe-stars-then : {A : Type 0} {Q : List Mark → Type 0} (limit : ℕ) (s : Option Stars) (marks : List Mark) (rest : List Symbol) (next : Option Stars × List Symbol → Result A Fault) (answer : Result A Fault) (j : Joined (maybe (stars 0) s) Q marks)
@@ -351,7 +351,7 @@ void-function back begins n f marks rest is =
     let j = (grouped f marks is).second in
     maybe-stars-then n f.stars marks rest (void_named n) _ is (name-first-then rest is.second)
     (name-then _ rest _ j (omega arith)
-        (sign-then _ rest _ j.second (omega arith) (function_behind-back back begins n (giving None f) j.second.back rest j.second.second)))
+    (sign-then _ rest _ j.second (omega arith) (function_behind-back back begins n (giving None f) j.second.back rest j.second.second)))
 
 function-back : ExprIsReadBack → ExprBegins → (n : ℕ) (f : Routine) (marks : List Mark) (rest : List Symbol) → external (FunctionDeclared f) marks → external_at n (symbols_of marks ++ rest) ≡ cut n marks rest (Ok (FunctionDeclared f, rest))
 function-back back begins n f marks rest is = by_result f.result is

@@ -1,11 +1,8 @@
 -- What the first symbol of a statement or an entry of a block can be.
-use Rattle.std.specs.Prelude.{◌≡◌, ℕ, ◌||◌, Bool, true, false, List, [], ◌∷◌, Option, Some, None}
-use Rattle.std.specs.Option.{is_some}
-use Rattle.std.proofs.Common.{cond, refl, sym, ap, subst, ◌∙◌}
-use Rattle.kt_grammar.specs.declared.keyword.Keyword.{Keyword}
+use Rattle.std.specs.Prelude.{◌≡◌, ℕ, ◌||◌, Bool, true, false, List, [], ◌∷◌, Option, None}
+use Rattle.std.proofs.Common.{cond, refl, subst}
 use Rattle.kt_grammar.specs.declared.keyword.Keyword.TheVariants as keywords
 use Rattle.kt_grammar.specs.declared.operator.Dialect.TheVariants.{C}
-use Rattle.kt_grammar.specs.declared.sign.Sign.{Sign}
 use Rattle.kt_grammar.specs.declared.sign.Sign.TheVariants as signs
 use Rattle.kt_grammar.specs.declared.symbol.Symbol.{Symbol}
 use Rattle.kt_grammar.specs.declared.symbol.Symbol.TheVariants as symbol

@@ -1,21 +1,18 @@
 -- What stands before the declarators of an external declaration is read back: `static`, `const` and the type.
-use Rattle.std.specs.Prelude.{◌≡◌, ℕ, zero, suc, ◌+◌, ◌≤◌, Bool, true, false, List, [], ◌∷◌, ◌++◌, ◌⊎◌, length, drop, Option, Some, None, Result, Ok, Err, if◌then◌else◌}
-use Rattle.std.proofs.Common.{inl, inr, refl, sym, ap, subst, ◌∙◌, arith, append_assoc}
-use Rattle.std.specs.List.{AllByRecursion}
-use Rattle.kt_grammar.specs.declared.keyword.Keyword.{Keyword}
+use Rattle.std.specs.Prelude.{◌≡◌, ℕ, ◌≤◌, false, List, [], ◌∷◌, ◌++◌, ◌⊎◌, drop}
+use Rattle.std.proofs.Common.{inl, inr, refl, sym, ap, subst, ◌∙◌, arith}
 use Rattle.kt_grammar.specs.declared.keyword.Keyword.TheVariants as keywords
-use Rattle.kt_grammar.specs.declared.sign.Sign.{Sign}
 use Rattle.kt_grammar.specs.declared.sign.Sign.TheVariants as signs
 use Rattle.kt_grammar.specs.declared.symbol.Symbol.{Symbol}
 use Rattle.kt_grammar.specs.declared.symbol.Symbol.TheVariants as symbol
 use Rattle.kt_grammar.specs.declared.tree.Base.{Base}
 use Rattle.kt_grammar.specs.declared.tree.Base.TheVariants as base
-use Rattle.kt_grammar.specs.Marks.{Mark, Joined, symbols_of, IsShallow, token, keyword, name, nothing}
+use Rattle.kt_grammar.specs.Marks.{Mark, Joined, symbols_of, IsShallow, keyword, nothing}
 use Rattle.kt_grammar.specs.Spelling.{bare_base, spells_base}
-use Rattle.kt_grammar.specs.Cursor.{◌>>=◌, Outcome, begins_sign, behind, name_at}
+use Rattle.kt_grammar.specs.Cursor.{Outcome, begins_sign, name_at}
 use Rattle.kt_grammar.specs.Reading.{bare_base_at}
 use Rattle.kt_grammar.specs.Cut.{cut}
-use Rattle.kt_grammar.specs.CutLaws.{symbols_of-joined, symbols_of-append, shallow-append}
+use Rattle.kt_grammar.specs.CutLaws.{symbols_of-joined, shallow-append}
 use Rattle.kt_grammar.specs.BackLaws.{base-shallow, token-shallow}
 use Rattle.kt_syntax.specs.Tree.{External}
 use Rattle.kt_syntax.specs.Spelling.{leading}

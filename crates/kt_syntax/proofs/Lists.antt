@@ -1,16 +1,14 @@
 -- Lists of items that are spelled are read back.
-use Rattle.std.specs.Prelude.{◌≡◌, ℕ, zero, suc, ◌+◌, ◌≤◌, Bool, true, false, List, [], ◌∷◌, ◌++◌, length, drop, Result, Ok, Err, if◌then◌else◌}
-use Rattle.std.proofs.Common.{refl, sym, ap, subst, ◌∙◌, arith, append_assoc}
+use Rattle.std.specs.Prelude.{◌≡◌, ℕ, zero, suc, ◌+◌, ◌≤◌, Bool, true, false, List, [], ◌∷◌, ◌++◌, length, drop, Ok, if◌then◌else◌}
+use Rattle.std.proofs.Common.{refl, sym, ap, ◌∙◌, arith, append_assoc}
 use Rattle.std.proofs.lemmas.List.{length-append, append-nil}
-use Rattle.kt_grammar.specs.declared.sign.Sign.{Sign}
 use Rattle.kt_grammar.specs.declared.sign.Sign.TheVariants as signs
 use Rattle.kt_grammar.specs.declared.symbol.Symbol.{Symbol}
 use Rattle.kt_grammar.specs.declared.symbol.Symbol.TheVariants as symbol
-use Rattle.kt_grammar.specs.Marks.{Mark, Joined, ◌·◌, symbols_of, token, sign, nothing}
+use Rattle.kt_grammar.specs.Marks.{Mark, Joined, symbols_of, token, sign}
 use Rattle.kt_grammar.specs.Cursor.{◌>>=◌, Outcome, begins_sign, listed_at, until_at}
 use Rattle.kt_grammar.specs.Cut.{cut}
 use Rattle.kt_grammar.specs.Laws.{Begins}
-use Rattle.kt_grammar.specs.CutLaws.{begins-at, begins-append}
 use Rattle.kt_syntax.specs.Spelling.{separated, each}
 use Rattle.kt_syntax.proofs.Parts.{part-then, part-end, token-then, none-end, signed, first-then, first-joined}
 
@@ -51,8 +49,8 @@ separated-back spelling item Ends limit d its low (x ∷ []) (suc n) done marks 
 separated-back spelling item Ends limit d its low (x ∷ y ∷ xs) (suc n) done marks rest is ends h le =
     part-then item _ limit rest _ is (its.back x is.front (symbols_of is.back ++ rest) is.first (first-then Ends rest (signed is.second) (its.comma _ _)))
     (token-then (λ s. if begins_sign signs.Comma s then listed_at item n (done ++ x ∷ []) (drop 1 s) else Ok (done ++ x ∷ [], s)) rest _ (signed is.second) low
-        (separated-back spelling item Ends limit d its low (y ∷ xs) n (done ++ x ∷ []) is.second.back rest is.second.second ends h (shorter is)
-        ∙ ap (λ l. cut limit is.second.back rest (Ok (l, rest))) (append_assoc done (x ∷ []) (y ∷ xs))))
+    (separated-back spelling item Ends limit d its low (y ∷ xs) n (done ++ x ∷ []) is.second.back rest is.second.second ends h (shorter is)
+    ∙ ap (λ l. cut limit is.second.back rest (Ok (l, rest))) (append_assoc done (x ∷ []) (y ∷ xs))))
   where
     shorter : (j : Joined (spelling x) (Joined (sign d signs.Comma) (separated d spelling (y ∷ xs))) marks) → length j.second.back ≤ n
     shorter j =

@@ -1,24 +1,20 @@
 -- How parts that follow one another are read back.
-use Rattle.std.specs.Prelude.{◌≡◌, ℕ, zero, suc, ◌+◌, ◌≤◌, Bool, true, false, List, [], ◌∷◌, ◌++◌, length, drop, Result, Ok, Err, if◌then◌else◌}
-use Rattle.std.proofs.Common.{refl, sym, ap, subst, ◌∙◌, arith, append_assoc}
+use Rattle.std.specs.Prelude.{◌≡◌, ℕ, ◌≤◌, List, ◌∷◌, ◌++◌, Result, Ok}
+use Rattle.std.proofs.Common.{refl, sym, ap, subst, ◌∙◌, append_assoc}
 use Rattle.kt_grammar.specs.declared.fault.Fault.{Fault}
 use Rattle.kt_grammar.specs.declared.keyword.Keyword.{Keyword}
 use Rattle.kt_grammar.specs.declared.sign.Sign.{Sign}
-use Rattle.kt_grammar.specs.declared.sign.Sign.TheVariants as signs
 use Rattle.kt_grammar.specs.declared.symbol.Symbol.{Symbol}
 use Rattle.kt_grammar.specs.declared.symbol.Symbol.TheVariants as symbol
 use Rattle.kt_grammar.specs.declared.tree.Name.{Name}
 use Rattle.kt_grammar.specs.declared.tree.Base.{Base}
-use Rattle.kt_grammar.specs.Marks.{Mark, Language, Joined, ◌·◌, symbols_of, IsShallow, token, sign, keyword, name, nothing}
+use Rattle.kt_grammar.specs.Marks.{Mark, Joined, symbols_of, IsShallow, token, sign, keyword, name, nothing}
 use Rattle.kt_grammar.specs.Spelling.{spells_base}
-use Rattle.kt_grammar.specs.Cursor.{◌>>=◌, Outcome, begins_sign, behind, name_at}
+use Rattle.kt_grammar.specs.Cursor.{◌>>=◌, behind, name_at}
 use Rattle.kt_grammar.specs.Reading.{base_at}
 use Rattle.kt_grammar.specs.Cut.{cut}
 use Rattle.kt_grammar.specs.CutLaws.{symbols_of-joined, cut-joined, cut-then, cut-end, cut-first, cut-token, cut-shallow}
-use Rattle.kt_grammar.specs.BackLaws.{sign-back, name-back, behind-sign, base-back, base-shallow}
-use Rattle.kt_syntax.specs.declared.tree.Parameter.{Parameter}
-use Rattle.kt_syntax.specs.Spelling.{parameter, maybe, pointer}
-use Rattle.kt_syntax.specs.Reading.{parameter_at, pointer_at}
+use Rattle.kt_grammar.specs.BackLaws.{sign-back, name-back, base-back, base-shallow}
 
 -- a part, and what is read behind it
 pub part-then : {A B : Type 0} {P Q : List Mark → Type 0} {marks : List Mark} {x : A} (read : List Symbol → Result A Fault) (next : A → Result B Fault) (limit : ℕ) (rest : List Symbol) (answer : Result B Fault) (j : Joined P Q marks)

@@ -1,6 +1,6 @@
 -- Declarations, conditions and the parts between the parentheses of `for` that are spelled are read back.
-use Rattle.std.specs.Prelude.{◌≡◌, ℕ, zero, suc, ◌+◌, ◌≤◌, ◌<◌, Bool, true, false, List, [], ◌∷◌, ◌++◌, length, drop, Option, Some, None, Result, Ok, Err, if◌then◌else◌}
-use Rattle.std.proofs.Common.{refl, sym, ap, subst, ◌∙◌, arith}
+use Rattle.std.specs.Prelude.{◌≡◌, ℕ, zero, suc, ◌+◌, ◌≤◌, true, false, List, [], ◌∷◌, ◌++◌, length, Option, Some, None, Ok}
+use Rattle.std.proofs.Common.{refl, ap, ◌∙◌, arith}
 use Rattle.kt_grammar.specs.declared.operator.Dialect.TheVariants.{C}
 use Rattle.kt_grammar.specs.declared.sign.Sign.{Sign}
 use Rattle.kt_grammar.specs.declared.sign.Sign.TheVariants as signs
@@ -8,8 +8,8 @@ use Rattle.kt_grammar.specs.declared.symbol.Symbol.{Symbol}
 use Rattle.kt_grammar.specs.declared.symbol.Symbol.TheVariants as symbol
 use Rattle.kt_grammar.specs.Tree.{Term}
 use Rattle.kt_grammar.specs.Signs.{step_of, assign_of, binary_of}
-use Rattle.kt_grammar.specs.Marks.{Mark, Joined, ◌·◌, symbols_of, sign, name, token}
-use Rattle.kt_grammar.specs.Spelling.{spells, spells_base}
+use Rattle.kt_grammar.specs.Marks.{Mark, Joined, symbols_of, sign}
+use Rattle.kt_grammar.specs.Spelling.{spells}
 use Rattle.kt_grammar.specs.Cursor.{◌>>=◌, Outcome, begins_sign, behind, listed_at}
 use Rattle.kt_grammar.specs.Reading.{begins_base, begins_expr, begins_postfix, expr_at}
 use Rattle.kt_grammar.specs.Cut.{cut}
@@ -19,7 +19,7 @@ use Rattle.kt_grammar.specs.BackLaws.{begins_sign-self, base-begins}
 use Rattle.kt_syntax.specs.Tree.{Local, Declaration, Start, NoStart, Declares, Evaluates}
 use Rattle.kt_syntax.specs.Spelling.{maybe, local, declaration, condition, for_start}
 use Rattle.kt_syntax.specs.Reading.{local_at, declaration_at, deep_expr_at, condition_at, ended_at, start_at}
-use Rattle.kt_syntax.proofs.Parts.{part-then, part-end, sign-then, sign-end, base-then, token-then, token-end, none-end, none-then, signed, worded, first-end, first-then}
+use Rattle.kt_syntax.proofs.Parts.{part-then, part-end, sign-then, sign-end, base-then, token-end, none-then, first-end}
 use Rattle.kt_syntax.proofs.Declarators.{IsEnded, ended-comma, ended-semicolon, local-back}
 use Rattle.kt_syntax.proofs.Lists.{joined-length, token-length, IsItem, separated-back}
 use Rattle.kt_syntax.proofs.Fronts.{expr-semicolon, expr-close, expr-base, base-semicolon}
@@ -52,7 +52,7 @@ declaration-back back n d x marks rest is ends h =
     let low : d ≤ d + n = omega arith in
     base-then _ rest _ is low
     (part-end (listed_at (local_at n) (length (symbols_of is.back ++ rest)) []) _ (d + n) is.back rest
-        (separated-back (local d) (local_at n) IsEnded (d + n) d (local-item back n d) low x.locals (length (symbols_of is.back ++ rest)) [] is.back rest is.second ends h (length-within is.back rest)) refl)
+    (separated-back (local d) (local_at n) IsEnded (d + n) d (local-item back n d) low x.locals (length (symbols_of is.back ++ rest)) [] is.back rest is.second ends h (length-within is.back rest)) refl)
 
 -- a declaration begins with a type
 pub declaration-begins : (d : ℕ) (x : Declaration) (marks : List Mark) → declaration d x marks → Begins (λ symbols. begins_base symbols ≡ true) d marks
@@ -102,8 +102,8 @@ condition-back back begins n d c marks rest is =
     let low : d ≤ d + n = omega arith in
     sign-then _ rest _ is low
     (part-then (deep_expr_at n) _ (d + n) rest _ is.second
-        (deep_expr-back back begins n d c is.second.front (symbols_of is.second.back ++ rest) is.second.first (first-end (λ r. needs C r ≡ 0) rest is.second.second.1 (close-stop.operator _ _)))
-        (sign-end _ is.second.second low refl))
+    (deep_expr-back back begins n d c is.second.front (symbols_of is.second.back ++ rest) is.second.first (first-end (λ r. needs C r ≡ 0) rest is.second.second.1 (close-stop.operator _ _)))
+    (sign-end _ is.second.second low refl))
 
 -- what begins with an expression begins with no such sign
 expr-stop : ExprBegins → (d : ℕ) (s : Sign) (e : Term) (marks : List Mark) (rest : List Symbol) → IsStop s → Joined (spells C d e) (sign d s) marks → begins_sign s (symbols_of marks ++ rest) ≡ false

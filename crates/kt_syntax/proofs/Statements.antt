@@ -1,5 +1,5 @@
 -- Statements and the entries of blocks that are spelled are read back.
-use Rattle.std.specs.Prelude.{◌≡◌, ℕ, zero, suc, ◌+◌, ◌≤◌, ◌<◌, Bool, true, false, not, List, [], ◌∷◌, ◌++◌, length, drop, Option, Some, None, Result, Ok, Err, if◌then◌else◌}
+use Rattle.std.specs.Prelude.{◌≡◌, ℕ, zero, suc, ◌+◌, ◌≤◌, true, false, not, List, [], ◌∷◌, ◌++◌, length, drop, Option, None, Ok}
 use Rattle.std.proofs.Common.{refl, sym, ap, subst, ◌∙◌, arith, append_assoc}
 use Rattle.std.proofs.lemmas.List.{append-nil}
 use Rattle.kt_grammar.specs.declared.keyword.Keyword.{Keyword}
@@ -9,16 +9,15 @@ use Rattle.kt_grammar.specs.declared.sign.Sign.TheVariants as signs
 use Rattle.kt_grammar.specs.declared.symbol.Symbol.{Symbol}
 use Rattle.kt_grammar.specs.declared.symbol.Symbol.TheVariants as symbol
 use Rattle.kt_grammar.specs.Tree.{Term}
-use Rattle.kt_grammar.specs.Marks.{Mark, Joined, ◌·◌, symbols_of, sign, keyword, token}
-use Rattle.kt_grammar.specs.Spelling.{spells}
-use Rattle.kt_grammar.specs.Cursor.{◌>>=◌, Outcome, begins_sign, behind, until_at}
-use Rattle.kt_grammar.specs.Reading.{begins_base, begins_expr, expr_at}
+use Rattle.kt_grammar.specs.Marks.{Mark, Joined, symbols_of, sign, keyword, token}
+use Rattle.kt_grammar.specs.Cursor.{begins_sign, until_at}
+use Rattle.kt_grammar.specs.Reading.{begins_base, begins_expr}
 use Rattle.kt_grammar.specs.Cut.{cut}
 use Rattle.kt_grammar.specs.Laws.{Begins, ExprIsReadBack, ExprBegins}
 use Rattle.kt_grammar.specs.CutLaws.{begins-at, begins-append, begins-token, begins-weaker, cut-none}
-use Rattle.kt_syntax.specs.Tree.{Declaration, Start, Statement, Declared, Compound, Empty, Evaluated, Returned, Broken, Continued, Conditional, Alternative, Looped, Repeated, Counted, Statements, Nothing, More, statements_of}
-use Rattle.kt_syntax.specs.Spelling.{declaration, condition, ends_open, statement, entries}
-use Rattle.kt_syntax.specs.Reading.{Blocks, begins_keyword, begins_statement, begins_entry, refused, condition_at, part_at, block_behind, ended_at, behind_else, behind_while, else_at, if_behind, while_behind, do_behind, start_at, for_behind, evaluated_at, worded_at, signed_at, statement_at, entry_at, entries_at, blocks, declaration_at}
+use Rattle.kt_syntax.specs.Tree.{Start, Statement, Declared, Compound, Empty, Evaluated, Returned, Broken, Continued, Conditional, Alternative, Looped, Repeated, Counted, Statements, Nothing, More, statements_of}
+use Rattle.kt_syntax.specs.Spelling.{ends_open, statement, entries}
+use Rattle.kt_syntax.specs.Reading.{Blocks, begins_keyword, begins_statement, begins_entry, condition_at, part_at, block_behind, ended_at, behind_else, behind_while, else_at, if_behind, while_behind, do_behind, start_at, for_behind, evaluated_at, worded_at, signed_at, statement_at, entry_at, entries_at, blocks}
 use Rattle.kt_syntax.proofs.Parts.{part-then, part-end, sign-then, sign-end, token-then, token-end, none-end, none-then, signed, worded, first-end, first-then, joined-left}
 use Rattle.kt_syntax.proofs.Lists.{joined-length, begins-length, until-stop, until-more}
 use Rattle.kt_syntax.proofs.Fronts.{no_truth, expr-statement, statement_at-expr, statement-entry, statement-base, base-entry, entry-else, entry-close, close-else}
@@ -113,7 +112,7 @@ block-front begins es ih (suc n) d marks rest is =
     let within : length is.front ≤ length (symbols_of marks ++ rest) = (let a = joined-length is in let b = length-within marks rest in omega arith) in
     part-then (until_at (begins_sign signs.CloseBrace) (entry_at n (blocks n)) (length (symbols_of marks ++ rest)) []) (λ es. Ok (es.0, drop 1 es.1)) (d + suc n) rest _ is
     (ih n (suc d) (length (symbols_of marks ++ rest)) [] is.front (symbols_of is.back ++ rest) is.first (first-end (λ r. begins_sign signs.CloseBrace r ≡ true) rest is.second.1 refl) within
-        ∙ ap (λ l. cut l is.front (symbols_of is.back ++ rest) (Ok (list_of es, symbols_of is.back ++ rest))) same)
+    ∙ ap (λ l. cut l is.front (symbols_of is.back ++ rest) (Ok (list_of es, symbols_of is.back ++ rest))) same)
     (token-end (λ s. Ok (list_of es, drop 1 s)) rest _ is.second.1 (omega arith) refl)
 
 -- ---- statements by form
@@ -160,7 +159,7 @@ conditional-back back begins c s ih n d marks rest is h =
     let j = is.second in
     token-then (statement_at n (blocks n)) rest _ (worded is) (omega arith)
     (part-then (condition_at n) _ (d + n) rest _ j (condition-back back begins n d c j.front (symbols_of j.back ++ rest) j.first)
-        (part-end (part_at (blocks n)) _ (d + n) j.back rest (part-back begins s ih n d j.back rest j.second (λ _. h refl)) (else_at-none (blocks n) c s rest (h refl))))
+    (part-end (part_at (blocks n)) _ (d + n) j.back rest (part-back begins s ih n d j.back rest j.second (λ _. h refl)) (else_at-none (blocks n) c s rest (h refl))))
 
 alternative-back : ExprIsReadBack → ExprBegins → (c : Term) (s t : Statement) → StatementBack s → StatementBack t → StatementBack (Alternative c s t)
 unfolding statement_at worded_at if_behind else_at behind_else
@@ -171,9 +170,9 @@ alternative-back back begins c s t ih_s ih_t n d marks rest is h =
     let l = k.second in
     token-then (statement_at n (blocks n)) rest _ (worded i) (omega arith)
     (part-then (condition_at n) _ (d + n) rest _ j (condition-back back begins n d c j.front (symbols_of j.back ++ rest) j.first)
-        (part-then (part_at (blocks n)) _ (d + n) rest _ k (part-back begins s ih_s n d k.front (symbols_of k.back ++ rest) k.first (λ e. no_truth (ap (λ b. not b) (sym e) ∙ is.0)))
-            (token-then (else_at (blocks n) c s) rest _ (worded l) (omega arith)
-                (part-end (part_at (blocks n)) _ (d + n) l.back rest (part-back begins t ih_t n d l.back rest l.second h) refl))))
+    (part-then (part_at (blocks n)) _ (d + n) rest _ k (part-back begins s ih_s n d k.front (symbols_of k.back ++ rest) k.first (λ e. no_truth (ap (λ b. not b) (sym e) ∙ is.0)))
+    (token-then (else_at (blocks n) c s) rest _ (worded l) (omega arith)
+    (part-end (part_at (blocks n)) _ (d + n) l.back rest (part-back begins t ih_t n d l.back rest l.second h) refl))))
 
 looped-back : ExprIsReadBack → ExprBegins → (c : Term) (s : Statement) → StatementBack s → StatementBack (Looped c s)
 unfolding statement_at worded_at while_behind
@@ -181,7 +180,7 @@ looped-back back begins c s ih n d marks rest is h =
     let j = is.second in
     token-then (statement_at n (blocks n)) rest _ (worded is) (omega arith)
     (part-then (condition_at n) _ (d + n) rest _ j (condition-back back begins n d c j.front (symbols_of j.back ++ rest) j.first)
-        (part-end (part_at (blocks n)) _ (d + n) j.back rest (part-back begins s ih n d j.back rest j.second h) refl))
+    (part-end (part_at (blocks n)) _ (d + n) j.back rest (part-back begins s ih n d j.back rest j.second h) refl))
 
 repeated-back : ExprIsReadBack → ExprBegins → (s : Statement) (c : Term) → StatementBack s → StatementBack (Repeated s c)
 unfolding statement_at worded_at do_behind behind_while behind_else
@@ -191,9 +190,9 @@ repeated-back back begins s c ih n d marks rest is h =
     let l = k.second in
     token-then (statement_at n (blocks n)) rest _ (worded is) (omega arith)
     (part-then (part_at (blocks n)) _ (d + n) rest _ j (part-back begins s ih n d j.front (symbols_of j.back ++ rest) j.first (λ _. first-then (λ r. behind_else r ≡ None) rest (worded k) refl))
-        (part-then behind_while _ (d + n) rest _ k (token-end behind_while (symbols_of k.back ++ rest) _ k.first.1 (omega arith) refl)
-            (part-then (condition_at n) _ (d + n) rest _ l (condition-back back begins n d c l.front (symbols_of l.back ++ rest) l.first)
-                (sign-end _ l.second (omega arith) refl))))
+    (part-then behind_while _ (d + n) rest _ k (token-end behind_while (symbols_of k.back ++ rest) _ k.first.1 (omega arith) refl)
+    (part-then (condition_at n) _ (d + n) rest _ l (condition-back back begins n d c l.front (symbols_of l.back ++ rest) l.first)
+    (sign-end _ l.second (omega arith) refl))))
 
 counted-back : ExprIsReadBack → ExprBegins → (start : Start) (test step : Option Term) (s : Statement) → StatementBack s → StatementBack (Counted start test step s)
 unfolding statement_at worded_at for_behind
@@ -204,10 +203,10 @@ counted-back back begins start test step s ih n d marks rest is h =
     let c = joined-left b.second in
     token-then (statement_at n (blocks n)) rest _ (worded is) (omega arith)
     (sign-then _ rest _ j (omega arith)
-        (part-then (start_at n) _ (d + n) rest _ a (start-back back begins n d start a.front (symbols_of a.back ++ rest) a.first)
-            (part-then (ended_at n signs.Semicolon) _ (d + n) rest _ b (ended-back back begins n d signs.Semicolon test b.front (symbols_of b.back ++ rest) semicolon-stop b.first)
-                (part-then (ended_at n signs.CloseParenthesis) _ (d + n) rest _ c (ended-back back begins n d signs.CloseParenthesis step c.front (symbols_of c.back ++ rest) close-stop c.first)
-                    (part-end (part_at (blocks n)) _ (d + n) c.back rest (part-back begins s ih n d c.back rest c.second h) refl)))))
+    (part-then (start_at n) _ (d + n) rest _ a (start-back back begins n d start a.front (symbols_of a.back ++ rest) a.first)
+    (part-then (ended_at n signs.Semicolon) _ (d + n) rest _ b (ended-back back begins n d signs.Semicolon test b.front (symbols_of b.back ++ rest) semicolon-stop b.first)
+    (part-then (ended_at n signs.CloseParenthesis) _ (d + n) rest _ c (ended-back back begins n d signs.CloseParenthesis step c.front (symbols_of c.back ++ rest) close-stop c.first)
+    (part-end (part_at (blocks n)) _ (d + n) c.back rest (part-back begins s ih n d c.back rest c.second h) refl)))))
 
 -- ---- entries
 
@@ -232,7 +231,7 @@ more-entries-back back begins s es ih_s ih_es n d zero done marks rest is h le =
 more-entries-back back begins s es ih_s ih_es n d (suc count) done marks rest is h le =
     until-more (begins_sign signs.CloseBrace) (entry_at n (blocks n)) (d + n) count done marks rest s _ is
     (entry-close (symbols_of marks ++ rest)
-        (begins-at (λ symbols. begins_entry symbols ≡ true) d marks rest (begins-append (λ symbols. begins_entry symbols ≡ true) d marks is.front is.back is.parts (entry-begins begins s d is.front is.first))))
+    (begins-at (λ symbols. begins_entry symbols ≡ true) d marks rest (begins-append (λ symbols. begins_entry symbols ≡ true) d marks is.front is.back is.parts (entry-begins begins s d is.front is.first))))
     (entry-back back begins s ih_s n d is.front (symbols_of is.back ++ rest) is.first (λ _. entries-else begins es d is.back rest is.second h))
     (ih_es n d count (done ++ s ∷ []) is.back rest is.second h (let a = joined-length is in let b = begins-length (entry-begins begins s d is.front is.first) in omega arith)
     ∙ ap (λ l. cut (d + n) is.back rest (Ok (l, rest))) (append_assoc done (s ∷ []) (list_of es)))
