@@ -53,16 +53,16 @@ unfolding begins_sign
 named-star rest h = subst (λ r. begins_sign signs.Star r ≡ false) (sym h.is) refl
 
 -- stars that are spelled are read
-stars-first : (at : ℕ) (m : ℕ) (rest : List Symbol) → stars_at (symbol.Sign at signs.Star ∷ rest) ≡ (Some (record { at = at; count = suc (count_sign signs.Star rest) }), drop (count_sign signs.Star rest) rest)
+stars-first : (at : ℕ) (rest : List Symbol) → stars_at (symbol.Sign at signs.Star ∷ rest) ≡ (Some (record { at = at; count = suc (count_sign signs.Star rest) }), drop (count_sign signs.Star rest) rest)
 unfolding stars_at
-stars-first at m rest = refl
+stars-first at rest = refl
 
 pub stars-back : (d : ℕ) (s : Stars) (marks : List Mark) (rest : List Symbol) → stars d s marks → begins_sign signs.Star rest ≡ false → stars_at (symbols_of marks ++ rest) ≡ (Some s, rest)
 stars-back d s marks rest is h =
     let j = is.1 in
     let one : suc (s.count - 1) ≡ s.count = grind (arith, nat_tests, is.0) in
     first-then (λ r. stars_at r ≡ (Some s, rest)) rest j
-    (stars-first s.at 0 (symbols_of j.back ++ rest)
+    (stars-first s.at (symbols_of j.back ++ rest)
     ∙ ap (λ n. (Some (record { at = s.at; count = suc n }), drop n (symbols_of j.back ++ rest))) (count_sign-repeated d signs.Star (s.count - 1) j.back rest j.second h)
     ∙ ap (λ r. (Some (record { at = s.at; count = suc (s.count - 1) }), r)) (drop-repeated d signs.Star (s.count - 1) j.back rest j.second)
     ∙ ap (λ n. (Some (record { at = s.at; count = n }), rest)) one)

@@ -5,4 +5,7 @@ pub mod Fronts
 pub mod Phrases
 pub mod Statements
 pub mod Leading
-pub mod Externals
+pub mod Structs
+pub mod Globals
+pub mod Functions
+pub mod Files

@@ -1,4 +1,4 @@
-use Rattle.kt_syntax.proofs.Externals.{file-back, file-read, one-tree}
+use Rattle.kt_syntax.proofs.Files.{file-back, file-read, one-tree}
 use Rattle.kt_syntax.proofs.laws.file_laws.Goals as goal
 
 pub returns-clause-read_back : goal.returns-clause-read_back
