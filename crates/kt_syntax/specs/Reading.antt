@@ -1,8 +1,8 @@
 -- C files read from the left: the parts at the front of a list of symbols, where n more constructs may be opened.
-use Rattle.std.specs.Prelude.{◌≡◌, ℕ, zero, suc, ◌-◌, ◌||◌, Bool, true, false, List, [], ◌∷◌, ◌++◌, length, drop, Option, Some, None, Result, Ok, Err, if◌then◌else◌}
+use Rattle.std.specs.Prelude.{ℕ, zero, suc, ◌||◌, Bool, true, false, List, [], ◌∷◌, length, drop, Option, Some, None, Result, Ok, Err, if◌then◌else◌}
 use Rattle.kt_lex.specs.declared.number.Number.{Number}
 use Rattle.kt_grammar.specs.declared.fault.Fault.{Fault}
-use Rattle.kt_grammar.specs.declared.fault.Fault.TheVariants.{Syntax, TooDeep}
+use Rattle.kt_grammar.specs.declared.fault.Fault.TheVariants.{TooDeep}
 use Rattle.kt_grammar.specs.declared.keyword.Keyword.{Keyword}
 use Rattle.kt_grammar.specs.declared.keyword.Keyword.TheVariants as keywords
 use Rattle.kt_grammar.specs.declared.operator.Dialect.TheVariants.{C}
@@ -27,7 +27,7 @@ use Rattle.kt_syntax.specs.declared.tree.Constant.TheVariants as constant
 use Rattle.kt_syntax.specs.declared.tree.GlobalDeclarator.{GlobalDeclarator}
 use Rattle.kt_syntax.specs.declared.tree.Parameter.{Parameter}
 use Rattle.kt_syntax.specs.declared.tree.Fields.{Fields}
-use Rattle.kt_syntax.specs.Tree.{Local, Declaration, Start, NoStart, Declares, Evaluates, Statement, Declared, Compound, Empty, Evaluated, Returned, Broken, Continued, Conditional, Alternative, Looped, Repeated, Counted, statements_of, Definition, Routine, External, StructMentioned, StructDefined, GlobalsDeclared, FunctionDeclared}
+use Rattle.kt_syntax.specs.Tree.{Local, Declaration, Start, NoStart, Declares, Evaluates, Statement, Declared, Compound, Empty, Evaluated, Returned, Broken, Continued, Conditional, Alternative, Looped, Repeated, Counted, statements_of, Definition, External, StructMentioned, StructDefined, GlobalsDeclared, FunctionDeclared}
 
 -- ---- declarators
 
