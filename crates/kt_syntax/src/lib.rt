@@ -1,8 +1,10 @@
 //! The grammar of C files and its parser.
 #![tactic(auto)]
 
+mod laws;
 mod tree;
 
+pub use laws::file_laws;
 pub use tree::{
     Body, Constant, Declarator, Extent, Fields, File, ForStart, Function, GlobalDeclarator, Item,
     LocalDeclarator, Locals, Parameter, Pointer, Stars, Stmt,

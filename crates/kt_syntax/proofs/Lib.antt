@@ -1,0 +1,11 @@
+pub mod Parts
+pub mod Declarators
+pub mod Lists
+pub mod Fronts
+pub mod Phrases
+pub mod Statements
+pub mod Leading
+pub mod Structs
+pub mod Globals
+pub mod Functions
+pub mod Files
