@@ -2,3 +2,5 @@ pub mod Tree
 pub mod Spelling
 pub mod Reading
 pub mod File
+pub mod StandLaws
+pub mod ListStands
