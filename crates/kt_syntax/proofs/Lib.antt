@@ -1,1 +1,2 @@
 pub mod DeclaratorStands
+pub mod StatementStands
