@@ -1,5 +1,5 @@
 -- Declarators that are read, of fields, globals, parameters and locals, stand there.
-use Rattle.std.proofs.Common.{◌≡◌, ℕ, zero, suc, ◌+◌, ◌-◌, ◌≤◌, inl, inr, Bool, true, false, nat_le, List, [], ◌∷◌, length, drop, Option, Some, None, Result, Ok, Err, refl, sym, ap, ◌∙◌, subst, arith, le-leb}
+use Rattle.std.proofs.Common.{◌≡◌, ℕ, suc, ◌-◌, ◌≤◌, inl, inr, Bool, nat_le, List, [], ◌∷◌, length, drop, Option, Some, None, Ok, sym, subst, arith, le-leb}
 use Rattle.std.specs.Prelude.{if◌then◌else◌}
 use Rattle.kt_lex.specs.declared.number.Number.{Number}
 use Rattle.kt_grammar.specs.declared.keyword.Keyword.TheVariants as keywords
@@ -9,14 +9,13 @@ use Rattle.kt_grammar.specs.declared.sign.Sign.TheVariants as signs
 use Rattle.kt_grammar.specs.declared.symbol.Symbol.{Symbol}
 use Rattle.kt_grammar.specs.declared.symbol.Symbol.TheVariants as symbol
 use Rattle.kt_grammar.specs.declared.tree.Name.{Name}
-use Rattle.kt_grammar.specs.Tree.{Term}
 use Rattle.kt_grammar.specs.Signs.{same_sign}
-use Rattle.kt_grammar.specs.Marks.{Mark, Language, nothing, token, sign, keyword, name, ◌·◌, when, repeated}
-use Rattle.kt_grammar.specs.Spelling.{between, spells_base, spells}
-use Rattle.kt_grammar.specs.Cursor.{◌>>=◌, Outcome, begins_sign, behind, name_at, count_sign, listed_at}
+use Rattle.kt_grammar.specs.Marks.{Mark, token, sign, name, ◌·◌, repeated}
+use Rattle.kt_grammar.specs.Spelling.{between, spells}
+use Rattle.kt_grammar.specs.Cursor.{Outcome, behind, name_at, count_sign, listed_at}
 use Rattle.kt_grammar.specs.Reading.{base_at, expr_at}
-use Rattle.kt_grammar.specs.Laws.{Stands, ExprStands}
-use Rattle.kt_grammar.specs.StandsLaws.{no_value, by_value, bind_ok, either, chosen, chosen_first, same_sign_is, nothing_stands, token_stands, stands_joined, stands_as, stands_when, sign_stands, keyword_stands, behind_stands, name_at_stands, count_sign_stands, base_at_stands}
+use Rattle.kt_grammar.specs.Laws.{Stands}
+use Rattle.kt_grammar.specs.StandsLaws.{no_value, by_value, bind_ok, either, chosen_first, same_sign_is, nothing_stands, token_stands, stands_joined, stands_as, stands_when, sign_stands, keyword_stands, behind_stands, name_at_stands, count_sign_stands, base_at_stands}
 use Rattle.kt_syntax.specs.declared.tree.Stars.{Stars}
 use Rattle.kt_syntax.specs.declared.tree.Extent.{Extent}
 use Rattle.kt_syntax.specs.declared.tree.Extent.TheVariants as extent
@@ -28,7 +27,7 @@ use Rattle.kt_syntax.specs.declared.tree.GlobalDeclarator.{GlobalDeclarator}
 use Rattle.kt_syntax.specs.declared.tree.Parameter.{Parameter}
 use Rattle.kt_syntax.specs.declared.tree.Fields.{Fields}
 use Rattle.kt_syntax.specs.Tree.{Local, Declaration}
-use Rattle.kt_syntax.specs.Spelling.{separated, maybe, number, character, text, stars, extent_name, extent_spelling, pointer, count, declarator, constant_spelling, global, parameter, fields, local, declaration}
+use Rattle.kt_syntax.specs.Spelling.{maybe, number, stars, extent_name, extent_spelling, pointer, count, declarator, constant_spelling, global, parameter, fields, local, declaration}
 use Rattle.kt_syntax.specs.Reading.{stars_at, extent_name_at, extent_behind, extent_at, pointer_behind, pointer_at, count_behind, count_at, declarator_behind, declarator_at, negative_at, constant_at, initial_at, global_behind, global_at, parameter_at, fields_at, value_at, local_at, declaration_at}
 use Rattle.kt_syntax.specs.ListStands.{ReadStands, led_stands, separated_stands}
 
@@ -97,7 +96,6 @@ module _ (limit d : ℕ) (h : d ≤ limit) where
 
   pub pointer_at_stands : ReadStands limit (maybe (pointer d)) pointer_at
   pointer_at_stands symbols x e = pointer_behind_stands (stars_at symbols).0 symbols (stars_at symbols).1 x (stars_at_stands symbols) e
-
 
   -- ---- declarators
 

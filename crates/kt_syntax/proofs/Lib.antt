@@ -1,2 +1,3 @@
 pub mod DeclaratorStands
 pub mod StatementStands
+pub mod ExternalStands

@@ -1,8 +1,6 @@
 -- Statements and blocks that are read stand there, no token of them too deep.
-use Rattle.std.proofs.Common.{◌≡◌, ℕ, zero, suc, ◌+◌, ◌≤◌, inl, inr, Bool, true, false, not, List, [], ◌∷◌, length, drop, Option, Some, None, Result, Ok, Err, refl, sym, ap, ◌∙◌, subst, arith}
+use Rattle.std.proofs.Common.{◌≡◌, ℕ, zero, suc, ◌+◌, ◌≤◌, inl, inr, Bool, true, false, not, List, [], ◌∷◌, length, drop, Option, Some, None, Ok, refl, sym, ◌∙◌, subst, arith}
 use Rattle.std.proofs.lemmas.Option.{same_Some}
-use Rattle.std.specs.Prelude.{if◌then◌else◌}
-use Rattle.kt_grammar.specs.declared.fault.Fault.{Fault}
 use Rattle.kt_grammar.specs.declared.keyword.Keyword.{Keyword}
 use Rattle.kt_grammar.specs.declared.keyword.Keyword.TheVariants as keywords
 use Rattle.kt_grammar.specs.declared.operator.Dialect.TheVariants.{C}
@@ -12,14 +10,14 @@ use Rattle.kt_grammar.specs.declared.symbol.Symbol.{Symbol}
 use Rattle.kt_grammar.specs.declared.symbol.Symbol.TheVariants as symbol
 use Rattle.kt_grammar.specs.Tree.{Term}
 use Rattle.kt_grammar.specs.Signs.{same_sign}
-use Rattle.kt_grammar.specs.Marks.{Mark, nothing, token, sign, keyword, ◌·◌, when}
-use Rattle.kt_grammar.specs.Spelling.{between, spells}
+use Rattle.kt_grammar.specs.Marks.{Mark, sign, keyword, ◌·◌}
+use Rattle.kt_grammar.specs.Spelling.{spells}
 use Rattle.kt_grammar.specs.Cursor.{◌>>=◌, Outcome, begins_sign, behind, until_at}
 use Rattle.kt_grammar.specs.Reading.{begins_base, begins_expr, expr_at}
 use Rattle.kt_grammar.specs.Laws.{Stands, ExprStands}
-use Rattle.kt_grammar.specs.StandsLaws.{no_value, by_value, bind_ok, either, chosen, chosen_first, same_sign_is, nothing_stands, token_stands, stands_joined, stands_as, stands_when, sign_stands, keyword_stands, begins_sign_stands, behind_stands}
-use Rattle.kt_syntax.specs.Tree.{Declaration, Start, NoStart, Declares, Evaluates, Statement, Declared, Compound, Empty, Evaluated, Returned, Broken, Continued, Conditional, Alternative, Looped, Repeated, Counted, Statements, Nothing, More, statements_of}
-use Rattle.kt_syntax.specs.Spelling.{each, maybe, declaration, ends_open, condition, for_start, statement, entries}
+use Rattle.kt_grammar.specs.StandsLaws.{no_value, by_value, bind_ok, chosen, same_sign_is, nothing_stands, token_stands, stands_joined, stands_as, stands_when, sign_stands, keyword_stands, begins_sign_stands, behind_stands}
+use Rattle.kt_syntax.specs.Tree.{Start, NoStart, Declares, Evaluates, Statement, Declared, Compound, Empty, Evaluated, Returned, Broken, Continued, Conditional, Alternative, Looped, Repeated, Counted, statements_of}
+use Rattle.kt_syntax.specs.Spelling.{each, maybe, ends_open, condition, for_start, statement, entries}
 use Rattle.kt_syntax.specs.Reading.{declaration_at, begins_statement, begins_entry, Blocks, refused, deep_expr_at, condition_at, part_at, block_behind, ended_at, behind_else, behind_while, else_at, if_behind, while_behind, do_behind, start_at, for_behind, evaluated_at, worded_at, signed_at, statement_at, entry_at, entries_at, blocks}
 use Rattle.kt_syntax.specs.ListStands.{ReadStands, not_true, none_is_some, picked, stands_then, until_at_stands}
 use Rattle.kt_syntax.proofs.DeclaratorStands.{declaration_at_stands}
@@ -120,10 +118,10 @@ module _ (law : ExprStands) (limit d n : ℕ) (whole : d + n ≡ limit) where
       elim (chosen (begins_sign s symbols) _ _ (Ok x) e) [
         | inl c ↦ by_value Found (None, drop 1 symbols) x c.1 (stands_joined (nothing_stands limit symbols) (begins_sign_stands limit d s symbols within c.0))
         | inr c ↦
-        let a = bind_ok (expr_at C n symbols) _ x c.1 in
-        let t = bind_ok (behind s a.value.1) _ x a.then_gave in
-        by_value Found (Some a.value.0, t.value) x t.then_gave
-        (stands_joined (expr_stands symbols a.value a.gave) (behind_stands limit d s a.value.1 t.value within t.gave))
+            let a = bind_ok (expr_at C n symbols) _ x c.1 in
+            let t = bind_ok (behind s a.value.1) _ x a.then_gave in
+            by_value Found (Some a.value.0, t.value) x t.then_gave
+            (stands_joined (expr_stands symbols a.value a.gave) (behind_stands limit d s a.value.1 t.value within t.gave))
       ]
 
   start_at_stands : ReadStands limit (λ start. for_start d start · sign d signs.Semicolon) (start_at n)
@@ -134,15 +132,15 @@ module _ (law : ExprStands) (limit d n : ℕ) (whole : d + n ≡ limit) where
         | inl c ↦ by_value Found (NoStart, drop 1 symbols) x c.1 (stands_joined (nothing_stands limit symbols) (begins_sign_stands limit d signs.Semicolon symbols within c.0))
         | inr c ↦ elim (chosen (begins_base symbols) _ _ (Ok x) c.1) [
           | inl c ↦
-          let a = bind_ok (declaration_at n symbols) _ x c.1 in
-          let t = bind_ok (behind signs.Semicolon a.value.1) _ x a.then_gave in
-          by_value Found (Declares a.value.0, t.value) x t.then_gave
-          (stands_joined (declaration_at_stands limit d within n expr_stands symbols a.value a.gave) (behind_stands limit d signs.Semicolon a.value.1 t.value within t.gave))
+              let a = bind_ok (declaration_at n symbols) _ x c.1 in
+              let t = bind_ok (behind signs.Semicolon a.value.1) _ x a.then_gave in
+              by_value Found (Declares a.value.0, t.value) x t.then_gave
+              (stands_joined (declaration_at_stands limit d within n expr_stands symbols a.value a.gave) (behind_stands limit d signs.Semicolon a.value.1 t.value within t.gave))
           | inr c ↦
-          let a = bind_ok (expr_at C n symbols) _ x c.1 in
-          let t = bind_ok (behind signs.Semicolon a.value.1) _ x a.then_gave in
-          by_value Found (Evaluates a.value.0, t.value) x t.then_gave
-          (stands_joined (expr_stands symbols a.value a.gave) (behind_stands limit d signs.Semicolon a.value.1 t.value within t.gave))
+              let a = bind_ok (expr_at C n symbols) _ x c.1 in
+              let t = bind_ok (behind signs.Semicolon a.value.1) _ x a.then_gave in
+              by_value Found (Evaluates a.value.0, t.value) x t.then_gave
+              (stands_joined (expr_stands symbols a.value a.gave) (behind_stands limit d signs.Semicolon a.value.1 t.value within t.gave))
         ]
       ]
 
@@ -177,14 +175,14 @@ module _ (law : ExprStands) (limit d n : ℕ) (whole : d + n ≡ limit) where
             | inl none ↦ by_value (StatementStands limit entry d (symbol.Keyword at keywords.If ∷ symbols)) (Conditional c s, front) x none.1
                 (record { stands = stands_joined led (stands_joined first second.stands); no_else = λ o. none.0 })
             | inr some ↦
-            let t = bind_ok (part_at b some.0) _ x some.2 in
-            let last = part_at_stands some.0 t.value t.gave in
-            by_value (StatementStands limit entry d (symbol.Keyword at keywords.If ∷ symbols)) (Alternative c s t.value.0, t.value.1) x t.then_gave
-            (record {
-              stands = stands_when (not (ends_open s)) (before_else (ends_open s) front some.0 second.no_else some.1)
-                (stands_joined led (stands_joined first (stands_joined second.stands (stands_joined (behind_else_stands limit d front some.0 within some.1) last.stands))));
-              no_else = last.no_else;
-            })
+                let t = bind_ok (part_at b some.0) _ x some.2 in
+                let last = part_at_stands some.0 t.value t.gave in
+                by_value (StatementStands limit entry d (symbol.Keyword at keywords.If ∷ symbols)) (Alternative c s t.value.0, t.value.1) x t.then_gave
+                (record {
+                  stands = stands_when (not (ends_open s)) (before_else (ends_open s) front some.0 second.no_else some.1)
+                      (stands_joined led (stands_joined first (stands_joined second.stands (stands_joined (behind_else_stands limit d front some.0 within some.1) last.stands))));
+                  no_else = last.no_else;
+                })
           ]
 
       if_behind_stands : (at : ℕ) (symbols : List Symbol) (x : Statement × List Symbol) → if_behind n b symbols ≡ Ok x → StatementStands limit entry d (symbol.Keyword at keywords.If ∷ symbols) x
@@ -231,10 +229,10 @@ module _ (law : ExprStands) (limit d n : ℕ) (whole : d + n ≡ limit) where
           by_value (StatementStands limit entry d (symbol.Keyword at keywords.For ∷ symbols)) (Counted i.value.0 t.value.0 u.value.0 s.value.0, s.value.1) x s.then_gave
           (record {
             stands = stands_joined (keyword_stands limit d at keywords.For symbols within)
-              (stands_joined (behind_stands limit d signs.OpenParenthesis symbols o.value within o.gave)
-              (stands_then (start_at_stands o.value i.value i.gave)
-              (stands_then (ended_at_stands signs.Semicolon i.value.1 t.value t.gave)
-              (stands_then (ended_at_stands signs.CloseParenthesis t.value.1 u.value u.gave) last.stands))));
+                (stands_joined (behind_stands limit d signs.OpenParenthesis symbols o.value within o.gave)
+                (stands_then (start_at_stands o.value i.value i.gave)
+                (stands_then (ended_at_stands signs.Semicolon i.value.1 t.value t.gave)
+                (stands_then (ended_at_stands signs.CloseParenthesis t.value.1 u.value u.gave) last.stands))));
             no_else = last.no_else;
           })
 
@@ -298,10 +296,10 @@ module _ (law : ExprStands) (limit d n : ℕ) (whole : d + n ≡ limit) where
     entry_at_stands symbols x e =
         elim (chosen (begins_base symbols) _ _ (Ok x) e) [
           | inl c ↦
-          let a = bind_ok (declaration_at n symbols) _ x c.1 in
-          let t = bind_ok (behind signs.Semicolon a.value.1) _ x a.then_gave in
-          by_value (λ (y : Statement × List Symbol). Stands limit (statement true d y.0) symbols y.1) (Declared a.value.0, t.value) x t.then_gave
-          (stands_when true refl (stands_joined (declaration_at_stands limit d within n expr_stands symbols a.value a.gave) (behind_stands limit d signs.Semicolon a.value.1 t.value within t.gave)))
+              let a = bind_ok (declaration_at n symbols) _ x c.1 in
+              let t = bind_ok (behind signs.Semicolon a.value.1) _ x a.then_gave in
+              by_value (λ (y : Statement × List Symbol). Stands limit (statement true d y.0) symbols y.1) (Declared a.value.0, t.value) x t.then_gave
+              (stands_when true refl (stands_joined (declaration_at_stands limit d within n expr_stands symbols a.value a.gave) (behind_stands limit d signs.Semicolon a.value.1 t.value within t.gave)))
           | inr c ↦ (statement_at_stands true symbols x c.1).stands
         ]
 

@@ -1,14 +1,12 @@
 -- Laws of what stands at the front of symbols: what need not stand, and lists.
-use Rattle.std.proofs.Common.{◌≡◌, ℕ, zero, suc, ◌≤◌, ◌⊎◌, inl, inr, Bool, true, false, cond, List, [], ◌∷◌, ◌++◌, drop, Option, Some, None, Result, Ok, Err, refl, sym, ap, ◌∙◌, subst, append_assoc, append-nil}
+use Rattle.std.proofs.Common.{◌≡◌, ℕ, zero, suc, ◌≤◌, ◌⊎◌, inl, inr, Bool, true, false, cond, List, [], ◌∷◌, ◌++◌, drop, Option, Some, None, Ok, refl, sym, ap, ◌∙◌, subst, append_assoc, append-nil}
 use Rattle.std.specs.Prelude.{if◌then◌else◌}
-use Rattle.kt_grammar.specs.declared.fault.Fault.{Fault}
 use Rattle.kt_grammar.specs.declared.sign.Sign.{Sign}
-use Rattle.kt_grammar.specs.declared.sign.Sign.TheVariants as signs
 use Rattle.kt_grammar.specs.declared.symbol.Symbol.{Symbol}
-use Rattle.kt_grammar.specs.Marks.{Mark, Language, nothing, sign, ◌·◌}
+use Rattle.kt_grammar.specs.Marks.{Mark, Language, sign, ◌·◌}
 use Rattle.kt_grammar.specs.Cursor.{◌>>=◌, Outcome, begins_sign, listed_at, until_at}
 use Rattle.kt_grammar.specs.Laws.{Stands}
-use Rattle.kt_grammar.specs.StandsLaws.{no_value, by_value, bind_ok, chosen, nothing_stands, stands_joined, stands_as, begins_sign_stands, listed, ListedStands, listed_at_stands}
+use Rattle.kt_grammar.specs.StandsLaws.{no_value, by_value, bind_ok, chosen, nothing_stands, stands_joined, stands_as, begins_sign_stands, listed, listed_at_stands}
 use Rattle.kt_syntax.specs.Spelling.{separated, each, maybe}
 
 -- what is read stands there
@@ -31,14 +29,14 @@ picked (Some a) x f z e = inr (a, refl, e)
 -- two parts and a third stand as one and the other two
 pub stands_then : {limit : ℕ} {A B C : List Mark → Type 0} {symbols middle rest : List Symbol} → Stands limit (A · B) symbols middle → Stands limit C middle rest → Stands limit (A · B · C) symbols rest
 stands_then {limit} {A} {B} {C} a c = stands_as (A · B · C)
-  (λ m j. record {
-    front = j.first.front;
-    back = j.first.back ++ j.back;
-    parts = j.parts ∙ ap (λ (f : List Mark). f ++ j.back) j.first.parts ∙ append_assoc j.first.front j.first.back j.back;
-    first = j.first.first;
-    second = record { front = j.first.back; back = j.back; parts = refl; first = j.first.second; second = j.second };
-  })
-  (stands_joined a c)
+    (λ m j. record {
+      front = j.first.front;
+      back = j.first.back ++ j.back;
+      parts = j.parts ∙ ap (λ (f : List Mark). f ++ j.back) j.first.parts ∙ append_assoc j.first.front j.first.back j.back;
+      first = j.first.first;
+      second = record { front = j.first.back; back = j.back; parts = refl; first = j.first.second; second = j.second };
+    })
+    (stands_joined a c)
 
 -- what a sign leads, where the sign stands there
 pub led_stands : {A : Type 0} (limit d : ℕ) (s : Sign) (language : A → Language) (read : List Symbol → Outcome A) → d ≤ limit → ReadStands limit language read
@@ -48,9 +46,9 @@ led_stands {A} limit d s language read h stands symbols x e =
     let Found : Option A × List Symbol → Type 0 = λ y. Stands limit (maybe (λ c. sign d s · language c) y.0) symbols y.1 in
     elim (chosen (begins_sign s symbols) _ _ (Ok x) e) [
       | inl c ↦
-      let r = bind_ok (read (drop 1 symbols)) _ x c.1 in
-      by_value Found (Some r.value.0, r.value.1) x r.then_gave
-      (stands_joined (begins_sign_stands limit d s symbols h c.0) (stands (drop 1 symbols) r.value r.gave))
+          let r = bind_ok (read (drop 1 symbols)) _ x c.1 in
+          by_value Found (Some r.value.0, r.value.1) x r.then_gave
+          (stands_joined (begins_sign_stands limit d s symbols h c.0) (stands (drop 1 symbols) r.value r.gave))
       | inr c ↦ by_value Found (None, symbols) x c.1 (nothing_stands limit symbols)
     ]
 
@@ -128,7 +126,7 @@ until_at_stands limit stops item read stands zero done symbols x e = elim (chose
 until_at_stands limit stops item read stands (suc count) done symbols x e = elim (chosen (stops symbols) _ _ (Ok x) e) [
   | inl c ↦ none_stands limit stops item done symbols x c.0 c.1
   | inr c ↦
-  let s = bind_ok (read symbols) _ x c.1 in
-  one_more_stands limit stops item done symbols s.value x (stands symbols s.value s.gave)
-  (until_at_stands limit stops item read stands count (done ++ s.value.0 ∷ []) s.value.1 x s.then_gave)
+      let s = bind_ok (read symbols) _ x c.1 in
+      one_more_stands limit stops item done symbols s.value x (stands symbols s.value s.gave)
+      (until_at_stands limit stops item read stands count (done ++ s.value.0 ∷ []) s.value.1 x s.then_gave)
 ]
