@@ -1,6 +1,8 @@
 -- What is read is what is spelled: the laws of reading expressions.
-use Rattle.std.specs.Prelude.{◌≡◌, ℕ, zero, suc, ◌+◌, ◌≤◌, true, List, [], ◌∷◌, ◌++◌, Ok, Some, None, Option, if◌then◌else◌, ◌||◌}
+use Rattle.std.specs.Prelude.{◌≡◌, ℕ, zero, suc, ◌+◌, ◌≤◌, ◌<◌, true, List, [], ◌∷◌, ◌++◌, length, Ok, Err, Some, None, Option, if◌then◌else◌, ◌||◌}
 use Rattle.std.specs.Option.{is_some}
+use Rattle.kt_grammar.specs.declared.fault.Fault.{Fault}
+use Rattle.kt_grammar.specs.declared.fault.Fault.TheVariants.{Syntax, TooDeep, NoMemory}
 use Rattle.kt_grammar.specs.declared.operator.Dialect.{Dialect}
 use Rattle.kt_grammar.specs.declared.sign.Sign.{Sign}
 use Rattle.kt_grammar.specs.declared.sign.Sign.TheVariants as signs
@@ -11,7 +13,7 @@ use Rattle.kt_grammar.specs.declared.tree.TypeName.{TypeName}
 use Rattle.kt_grammar.specs.Tree.{Term}
 use Rattle.kt_grammar.specs.Signs.{same_sign, precedence, assign_of, binary_of}
 use Rattle.kt_grammar.specs.Marks.{Mark, symbols_of, IsShallow}
-use Rattle.kt_grammar.specs.Spelling.{spells, spells_base, spells_type}
+use Rattle.kt_grammar.specs.Spelling.{level, spells, spells_base, spells_type}
 use Rattle.kt_grammar.specs.Cursor.{Outcome, begins_sign}
 use Rattle.kt_grammar.specs.Reading.{begins_base, begins_expr, begins_postfix, base_at, expr_at}
 use Rattle.kt_grammar.specs.Cut.{cut}
@@ -57,3 +59,34 @@ pub record Begins (begins : List Symbol → Type 0) (d : ℕ) (marks : List Mark
 
 abbrev pub ExprBegins : Type 0
 ExprBegins = (g : Dialect) (d : ℕ) (x : Term) (marks : List Mark) → spells g d x marks → Begins (λ symbols. begins_expr g symbols ≡ true) d marks
+
+-- the symbol at the front of the rest is that of the mark at the front, which is too deep
+abbrev pub IsTooDeep : ℕ → List Mark → List Symbol → Type 0
+IsTooDeep limit (m ∷ others) (s ∷ rest) = (m.symbol ≡ s) × (limit < m.depth)
+IsTooDeep limit _ _ = ⊥
+
+-- the fault tells how many symbols are left; where it is depth, what would go on there does so with the symbol there, too deep
+abbrev pub IsFaultAt : ℕ → List Mark → List Symbol → Fault → Type 0
+IsFaultAt limit others rest (Syntax left) = length rest ≡ left
+IsFaultAt limit others rest (TooDeep left) = (length rest ≡ left) × IsTooDeep limit others rest
+IsFaultAt limit others rest NoMemory = ⊥
+
+-- the symbols before the place of a fault begin something that would go on there, no token of them too deep
+pub record FaultStands (limit : ℕ) (language : List Mark → Type 0) (symbols : List Symbol) (fault : Fault) : Type 0 where
+  pub marks : List Mark
+  pub others : List Mark
+  pub rest : List Symbol
+  pub parts : symbols ≡ symbols_of marks ++ rest
+  pub shallow : IsShallow limit marks
+  pub begins : language (marks ++ others)
+  pub is_fault : IsFaultAt limit others rest fault
+
+-- what spells some expression of at least a level
+abbrev pub some_expr : Dialect → ℕ → ℕ → List Mark → Type 0
+some_expr g least d marks = (x : Term) × (least ≤ level x) × spells g d x marks
+
+-- where no expression is read, what stands before the place of the fault begins one
+abbrev pub ExprFaultStands : Type 0
+ExprFaultStands =
+    (g : Dialect) (n d : ℕ) (symbols : List Symbol) (fault : Fault)
+    → expr_at g n symbols ≡ Err fault → FaultStands (d + n) (some_expr g 0 d) symbols fault
