@@ -1,8 +1,10 @@
 //! The grammar of C files and its parser.
 #![tactic(auto)]
 
+mod stands;
 mod tree;
 
+pub use stands::file_stands_law;
 pub use tree::{
     Body, Constant, Declarator, Extent, Fields, File, ForStart, Function, GlobalDeclarator, Item,
     LocalDeclarator, Locals, Parameter, Pointer, Stars, Stmt,
