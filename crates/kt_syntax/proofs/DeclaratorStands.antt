@@ -59,7 +59,7 @@ module _ (limit d : ℕ) (h : d ≤ limit) where
 
   -- ---- pointers
 
-  extent_name_at_stands : ReadStands limit (extent_name d) extent_name_at
+  pub extent_name_at_stands : ReadStands limit (extent_name d) extent_name_at
   unfolding extent_name_at
   extent_name_at_stands (symbol.Name at word ∷ rest) x e =
       by_value (λ (y : Extent × List Symbol). Stands limit (extent_name d y.0) (symbol.Name at word ∷ rest) y.1) (extent.Name (record { at = at; word = word }), rest) x e
@@ -69,7 +69,7 @@ module _ (limit d : ℕ) (h : d ≤ limit) where
       (token_stands limit d (symbol.Number at n) rest h)
   extent_name_at_stands _ x e = no_value _ x e
 
-  extent_behind_stands : ReadStands limit (λ x. between d (extent_name d x)) extent_behind
+  pub extent_behind_stands : ReadStands limit (λ x. between d (extent_name d x)) extent_behind
   extent_behind_stands symbols x e =
       let s = bind_ok (behind signs.OpenParenthesis symbols) _ x e in
       let t = bind_ok (extent_name_at s.value) _ x s.then_gave in
@@ -78,7 +78,7 @@ module _ (limit d : ℕ) (h : d ≤ limit) where
       (stands_joined (behind_stands limit d signs.OpenParenthesis symbols s.value h s.gave)
       (stands_joined (extent_name_at_stands s.value t.value t.gave) (behind_stands limit d signs.CloseParenthesis t.value.1 u.value h u.gave)))
 
-  extent_at_stands : ReadStands limit (maybe (extent_spelling d)) extent_at
+  pub extent_at_stands : ReadStands limit (maybe (extent_spelling d)) extent_at
   unfolding extent_at
   extent_at_stands (symbol.Keyword at keywords.PointerArray ∷ rest) x e =
       let s = bind_ok (extent_behind rest) _ x e in
@@ -99,7 +99,7 @@ module _ (limit d : ℕ) (h : d ≤ limit) where
 
   -- ---- declarators
 
-  number_stands : (at : ℕ) (n : Number) (rest : List Symbol) → Stands limit (number d n) (symbol.Number at n ∷ rest) rest
+  pub number_stands : (at : ℕ) (n : Number) (rest : List Symbol) → Stands limit (number d n) (symbol.Number at n ∷ rest) rest
   number_stands at n rest = stands_as (number d n) (λ m t. (at, t)) (token_stands limit d (symbol.Number at n) rest h)
 
   count_behind_stands : ReadStands limit (λ n. number d n · sign d signs.CloseBracket) count_behind
@@ -110,18 +110,18 @@ module _ (limit d : ℕ) (h : d ≤ limit) where
       (stands_joined (number_stands at n rest) (behind_stands limit d signs.CloseBracket rest s.value h s.gave))
   count_behind_stands _ x e = no_value _ x e
 
-  count_at_stands : ReadStands limit (maybe (count d)) count_at
+  pub count_at_stands : ReadStands limit (maybe (count d)) count_at
   unfolding count_at
   count_at_stands symbols x e = led_stands limit d signs.OpenBracket (λ n. number d n · sign d signs.CloseBracket) count_behind h count_behind_stands symbols x e
 
-  declarator_behind_stands : (p : Option Pointer) (n : Name) (symbols front middle : List Symbol) (x : Declarator × List Symbol) → Stands limit (maybe (pointer d) p) symbols front → Stands limit (name d n) front middle
+  pub declarator_behind_stands : (p : Option Pointer) (n : Name) (symbols front middle : List Symbol) (x : Declarator × List Symbol) → Stands limit (maybe (pointer d) p) symbols front → Stands limit (name d n) front middle
       → declarator_behind p n middle ≡ Ok x → Stands limit (declarator d x.0) symbols x.1
   declarator_behind_stands p n symbols front middle x first second e =
       let c = bind_ok (count_at middle) _ x e in
       by_value (λ (y : Declarator × List Symbol). Stands limit (declarator d y.0) symbols y.1) (record { pointer = p; name = n; count = c.value.0 }, c.value.1) x c.then_gave
       (stands_joined first (stands_joined second (count_at_stands middle c.value c.gave)))
 
-  declarator_at_stands : ReadStands limit (declarator d) declarator_at
+  pub declarator_at_stands : ReadStands limit (declarator d) declarator_at
   unfolding declarator_at
   declarator_at_stands symbols x e =
       let p = bind_ok (pointer_at symbols) _ x e in
@@ -157,7 +157,7 @@ module _ (limit d : ℕ) (h : d ≤ limit) where
   constant_at_stands (symbol.Keyword at keywords.MutexInitializer ∷ rest) x e = single_stands (symbol.Keyword at keywords.MutexInitializer) rest constant.MutexInitializer x (λ m t. (at, t)) e
   constant_at_stands _ x e = no_value _ x e
 
-  initial_at_stands : ReadStands limit (maybe (λ c. sign d signs.Assign · constant_spelling d c)) initial_at
+  pub initial_at_stands : ReadStands limit (maybe (λ c. sign d signs.Assign · constant_spelling d c)) initial_at
   unfolding initial_at
   initial_at_stands symbols x e = led_stands limit d signs.Assign (constant_spelling d) constant_at h constant_at_stands symbols x e
 
@@ -202,11 +202,11 @@ module _ (limit d : ℕ) (h : d ≤ limit) where
   -- ---- locals
 
   module _ (n : ℕ) (expr_stands : ReadStands limit (spells C d) (expr_at C n)) where
-    value_at_stands : ReadStands limit (maybe (λ e. sign d signs.Assign · spells C d e)) (value_at n)
+    pub value_at_stands : ReadStands limit (maybe (λ e. sign d signs.Assign · spells C d e)) (value_at n)
     unfolding value_at
     value_at_stands symbols x e = led_stands limit d signs.Assign (spells C d) (expr_at C n) h expr_stands symbols x e
 
-    local_at_stands : ReadStands limit (local d) (local_at n)
+    pub local_at_stands : ReadStands limit (local d) (local_at n)
     unfolding local_at
     local_at_stands symbols x e =
         let p = bind_ok (pointer_at symbols) _ x e in

@@ -1,3 +1,5 @@
 pub mod DeclaratorStands
 pub mod StatementStands
 pub mod ExternalStands
+pub mod FaultSteps
+pub mod DeclaratorFaults

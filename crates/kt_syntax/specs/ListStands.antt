@@ -54,7 +54,7 @@ led_stands {A} limit d s language read h stands symbols x e =
 
 -- ---- lists
 
-separated_of : {A : Type 0} (d : ℕ) (item : A → List Mark → Type 0) (x : A) (rest : List A) (marks : List Mark) → listed d item (x ∷ rest) marks → separated d item (x ∷ rest) marks
+pub separated_of : {A : Type 0} (d : ℕ) (item : A → List Mark → Type 0) (x : A) (rest : List A) (marks : List Mark) → listed d item (x ∷ rest) marks → separated d item (x ∷ rest) marks
 separated_of d item x [] marks l = l
 separated_of d item x (y ∷ rest) marks l = record {
   front = l.front;
