@@ -106,9 +106,14 @@ led_fault {A} limit d s language read h faults symbols fault e = elim (chosen (b
   | inr c ↦ no_fault _ fault c.1
 ]
 
+-- the symbol, at a depth, begins something
+pub record GoesOn (d : ℕ) (language : List Mark → Type 0) (s : Symbol) : Type 0 where
+  pub others : List Mark
+  pub goes : language (record { symbol = s; depth = d } ∷ others)
+
 -- what could begin here is too deep
 pub refused_fault : {A : Type 0} (limit d : ℕ) (begins : List Symbol → Bool) (language : List Mark → Type 0) → limit < d → begins [] ≡ false → Blank language
-    → ((s : Symbol) (rest : List Symbol) → begins (s ∷ rest) ≡ true → (others : List Mark) × language (record { symbol = s; depth = d } ∷ others))
+    → ((s : Symbol) (rest : List Symbol) → begins (s ∷ rest) ≡ true → GoesOn d language s)
     → (symbols : List Symbol) (fault : Fault) → refused {A = A} begins symbols ≡ Err fault → FaultStands limit language symbols fault
 refused_fault {A} limit d begins language deep empty blank goes_on symbols fault e = elim (chosen (begins symbols) _ _ (Err fault) e) [
   | inl c ↦ begun symbols c.0 c.1
@@ -117,7 +122,7 @@ refused_fault {A} limit d begins language deep empty blank goes_on symbols fault
   where
     begun : (symbols : List Symbol) → begins symbols ≡ true → ◌≡◌ {A = Result A Fault} (Err (TooDeep (length symbols))) (Err fault) → FaultStands limit language symbols fault
     begun [] t e = not_true (sym empty ∙ t)
-    begun (s ∷ rest) t e = let l = goes_on s rest t in too_deep_stands limit d language l.0 s rest fault deep l.1 e
+    begun (s ∷ rest) t e = let l = goes_on s rest t in too_deep_stands limit d language l.others s rest fault deep l.goes e
 
 -- ---- lists
 

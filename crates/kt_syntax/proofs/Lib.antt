@@ -3,3 +3,4 @@ pub mod StatementStands
 pub mod ExternalStands
 pub mod FaultSteps
 pub mod DeclaratorFaults
+pub mod StatementFaults

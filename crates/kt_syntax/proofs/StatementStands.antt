@@ -23,28 +23,28 @@ use Rattle.kt_syntax.specs.ListStands.{ReadStands, not_true, none_is_some, picke
 use Rattle.kt_syntax.proofs.DeclaratorStands.{declaration_at_stands}
 
 -- a statement stands there, and no `else` behind it that would belong to it
-record StatementStands (limit : ℕ) (entry : Bool) (d : ℕ) (symbols : List Symbol) (x : Statement × List Symbol) : Type 0 where
-  stands : Stands limit (statement entry d x.0) symbols x.1
-  no_else : ends_open x.0 ≡ true → behind_else x.1 ≡ None
+pub record StatementStands (limit : ℕ) (entry : Bool) (d : ℕ) (symbols : List Symbol) (x : Statement × List Symbol) : Type 0 where
+  pub stands : Stands limit (statement entry d x.0) symbols x.1
+  pub no_else : ends_open x.0 ≡ true → behind_else x.1 ≡ None
 
 -- the parts that these read stand there, below a statement at a depth
-record IsSound (limit d : ℕ) (b : Blocks) : Type 0 where
-  statement_is : (symbols : List Symbol) (x : Statement × List Symbol) → b.statement symbols ≡ Ok x → StatementStands limit false (suc d) symbols x
-  entries_is : ReadStands limit (λ es. entries (suc d) (statements_of es) · sign d signs.CloseBrace) b.entries
+pub record IsSound (limit d : ℕ) (b : Blocks) : Type 0 where
+  pub statement_is : (symbols : List Symbol) (x : Statement × List Symbol) → b.statement symbols ≡ Ok x → StatementStands limit false (suc d) symbols x
+  pub entries_is : ReadStands limit (λ es. entries (suc d) (statements_of es) · sign d signs.CloseBrace) b.entries
 
-abbrev AreSound : ℕ → ℕ → Option Blocks → Type 0
+abbrev pub AreSound : ℕ → ℕ → Option Blocks → Type 0
 AreSound limit d None = Unit {0}
 AreSound limit d (Some b) = IsSound limit d b
 
 -- what is refused gives nothing
-refused_not : {A : Type 0} (begins : List Symbol → Bool) (symbols : List Symbol) (x : A) {C : Type 0} → refused begins symbols ≡ Ok x → C
+pub refused_not : {A : Type 0} (begins : List Symbol → Bool) (symbols : List Symbol) (x : A) {C : Type 0} → refused begins symbols ≡ Ok x → C
 refused_not begins symbols x e = elim (chosen (begins symbols) _ _ (Ok x) e) [
   | inl c ↦ no_value _ x c.1
   | inr c ↦ no_value _ x c.1
 ]
 
 -- a part of a statement that is read stands there
-part_reads : (limit d : ℕ) (b : Option Blocks) → AreSound limit d b → (symbols : List Symbol) (x : Statement × List Symbol) → part_at b symbols ≡ Ok x → StatementStands limit false (suc d) symbols x
+pub part_reads : (limit d : ℕ) (b : Option Blocks) → AreSound limit d b → (symbols : List Symbol) (x : Statement × List Symbol) → part_at b symbols ≡ Ok x → StatementStands limit false (suc d) symbols x
 unfolding part_at
 part_reads limit d None sound symbols x e = refused_not begins_statement symbols x e
 part_reads limit d (Some b) sound symbols x e = sound.statement_is symbols x e
@@ -60,40 +60,40 @@ block_reads limit d h None sound symbols x e = elim (chosen (begins_sign signs.C
 block_reads limit d h (Some b) sound symbols x e = sound.entries_is symbols x e
 
 -- a statement behind which an `else` was taken does not end open
-before_else : (o : Bool) (symbols rest : List Symbol) → (o ≡ true → behind_else symbols ≡ None) → behind_else symbols ≡ Some rest → not o ≡ true
+pub before_else : (o : Bool) (symbols rest : List Symbol) → (o ≡ true → behind_else symbols ≡ None) → behind_else symbols ≡ Some rest → not o ≡ true
 before_else true symbols rest no_else e = none_is_some rest (sym (no_else refl) ∙ e)
 before_else false symbols rest no_else e = refl
 
 -- entries are spelled one after the other
-entries_of : (d : ℕ) (xs : List Statement) (marks : List Mark) → each (statement true d) xs marks → entries d (statements_of xs) marks
+pub entries_of : (d : ℕ) (xs : List Statement) (marks : List Mark) → each (statement true d) xs marks → entries d (statements_of xs) marks
 entries_of d [] marks l = l
 entries_of d (x ∷ xs) marks l = record { front = l.front; back = l.back; parts = l.parts; first = l.first; second = entries_of d xs l.back l.second }
 
-expr_reads : ExprStands → (limit n d : ℕ) → d + n ≡ limit → ReadStands limit (spells C d) (expr_at C n)
+pub expr_reads : ExprStands → (limit n d : ℕ) → d + n ≡ limit → ReadStands limit (spells C d) (expr_at C n)
 expr_reads law limit n d whole symbols x e = subst (λ (k : ℕ). Stands k (spells C d x.0) symbols x.1) whole (law C n d symbols x.0 x.1 e)
 
-deep_expr_reads : ExprStands → (limit n d : ℕ) → d + n ≡ limit → ReadStands limit (spells C (suc d)) (deep_expr_at n)
+pub deep_expr_reads : ExprStands → (limit n d : ℕ) → d + n ≡ limit → ReadStands limit (spells C (suc d)) (deep_expr_at n)
 deep_expr_reads law limit zero d whole symbols x e = refused_not (begins_expr C) symbols x e
 deep_expr_reads law limit (suc n) d whole symbols x e =
     let deeper : suc d + n ≡ limit = omega arith in
     expr_reads law limit n (suc d) deeper symbols x e
 
 -- a keyword that is taken stands there
-behind_while_stands : (limit d : ℕ) (symbols rest : List Symbol) → d ≤ limit → behind_while symbols ≡ Ok rest → Stands limit (keyword d keywords.While) symbols rest
+pub behind_while_stands : (limit d : ℕ) (symbols rest : List Symbol) → d ≤ limit → behind_while symbols ≡ Ok rest → Stands limit (keyword d keywords.While) symbols rest
 unfolding behind_while
 behind_while_stands limit d (symbol.Keyword at keywords.While ∷ rest) after h e =
     by_value (λ (r : List Symbol). Stands limit (keyword d keywords.While) (symbol.Keyword at keywords.While ∷ rest) r) rest after e (keyword_stands limit d at keywords.While rest h)
 behind_while_stands limit d _ after h e = no_value _ after e
 
 -- the keyword behind which something is read stands there
-behind_else_stands : (limit d : ℕ) (symbols rest : List Symbol) → d ≤ limit → behind_else symbols ≡ Some rest → Stands limit (keyword d keywords.Else) symbols rest
+pub behind_else_stands : (limit d : ℕ) (symbols rest : List Symbol) → d ≤ limit → behind_else symbols ≡ Some rest → Stands limit (keyword d keywords.Else) symbols rest
 unfolding behind_else
 behind_else_stands limit d (symbol.Keyword at keywords.Else ∷ rest) after h e =
     subst (λ (r : List Symbol). Stands limit (keyword d keywords.Else) (symbol.Keyword at keywords.Else ∷ rest) r) (same_Some rest after e) (keyword_stands limit d at keywords.Else rest h)
 behind_else_stands limit d _ after h e = none_is_some after e
 
 module _ (law : ExprStands) (limit d n : ℕ) (whole : d + n ≡ limit) where
-  within : d ≤ limit
+  pub within : d ≤ limit
   within = omega arith
 
   -- ---- expressions
@@ -101,7 +101,7 @@ module _ (law : ExprStands) (limit d n : ℕ) (whole : d + n ≡ limit) where
   expr_stands : ReadStands limit (spells C d) (expr_at C n)
   expr_stands = expr_reads law limit n d whole
 
-  condition_at_stands : ReadStands limit (condition d) (condition_at n)
+  pub condition_at_stands : ReadStands limit (condition d) (condition_at n)
   unfolding condition_at
   condition_at_stands symbols x e =
       let s = bind_ok (behind signs.OpenParenthesis symbols) _ x e in
@@ -111,7 +111,7 @@ module _ (law : ExprStands) (limit d n : ℕ) (whole : d + n ≡ limit) where
       (stands_joined (behind_stands limit d signs.OpenParenthesis symbols s.value within s.gave)
       (stands_joined (deep_expr_reads law limit n d whole s.value c.value c.gave) (behind_stands limit d signs.CloseParenthesis c.value.1 t.value within t.gave)))
 
-  ended_at_stands : (s : Sign) → ReadStands limit (λ e. maybe (spells C d) e · sign d s) (ended_at n s)
+  pub ended_at_stands : (s : Sign) → ReadStands limit (λ e. maybe (spells C d) e · sign d s) (ended_at n s)
   unfolding ended_at
   ended_at_stands s symbols x e =
       let Found : Option Term × List Symbol → Type 0 = λ y. Stands limit (maybe (spells C d) y.0 · sign d s) symbols y.1 in
@@ -124,7 +124,7 @@ module _ (law : ExprStands) (limit d n : ℕ) (whole : d + n ≡ limit) where
             (stands_joined (expr_stands symbols a.value a.gave) (behind_stands limit d s a.value.1 t.value within t.gave))
       ]
 
-  start_at_stands : ReadStands limit (λ start. for_start d start · sign d signs.Semicolon) (start_at n)
+  pub start_at_stands : ReadStands limit (λ start. for_start d start · sign d signs.Semicolon) (start_at n)
   unfolding start_at
   start_at_stands symbols x e =
       let Found : Start × List Symbol → Type 0 = λ y. Stands limit (for_start d y.0 · sign d signs.Semicolon) symbols y.1 in
@@ -145,7 +145,7 @@ module _ (law : ExprStands) (limit d n : ℕ) (whole : d + n ≡ limit) where
       ]
 
   module _ (b : Option Blocks) (sound : AreSound limit d b) where
-    part_at_stands : (symbols : List Symbol) (x : Statement × List Symbol) → part_at b symbols ≡ Ok x → StatementStands limit false (suc d) symbols x
+    pub part_at_stands : (symbols : List Symbol) (x : Statement × List Symbol) → part_at b symbols ≡ Ok x → StatementStands limit false (suc d) symbols x
     part_at_stands = part_reads limit d b sound
 
     block_behind_stands : ReadStands limit (λ es. entries (suc d) (statements_of es) · sign d signs.CloseBrace) (block_behind b)
@@ -291,7 +291,7 @@ module _ (law : ExprStands) (limit d n : ℕ) (whole : d + n ≡ limit) where
       statement_at_stands (symbol.Sign at s ∷ rest) x e = signed_at_stands at s rest x e
       statement_at_stands (other ∷ rest) x e = evaluated_at_stands (other ∷ rest) x e
 
-    entry_at_stands : ReadStands limit (statement true d) (entry_at n b)
+    pub entry_at_stands : ReadStands limit (statement true d) (entry_at n b)
     unfolding entry_at
     entry_at_stands symbols x e =
         elim (chosen (begins_base symbols) _ _ (Ok x) e) [
@@ -313,7 +313,7 @@ module _ (law : ExprStands) (limit d n : ℕ) (whole : d + n ≡ limit) where
         (stands_joined (stands_as (entries d (statements_of a.value.0)) (entries_of d a.value.0) found) (begins_sign_stands limit k signs.CloseBrace a.value.1 low all.stopped))
 
 -- what reads one deeper reads what stands there
-blocks_sound : ExprStands → (limit n d : ℕ) → d + n ≡ limit → AreSound limit d (blocks n)
+pub blocks_sound : ExprStands → (limit n d : ℕ) → d + n ≡ limit → AreSound limit d (blocks n)
 unfolding blocks
 blocks_sound law limit zero d whole = tt
 blocks_sound law limit (suc n) d whole =
