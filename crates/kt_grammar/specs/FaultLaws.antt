@@ -154,7 +154,8 @@ some_base d marks = (b : Base) × spells_base d b marks
 abbrev pub some_type : ℕ → List Mark → Type 0
 some_type d marks = (t : TypeName) × spells_type d t marks
 
-bare_base_at_fault : (limit d : ℕ) (symbols : List Symbol) (fault : Fault) → d ≤ limit → bare_base_at symbols ≡ Err fault → FaultStands limit (some_bare_base d) symbols fault
+-- a type without stars, and none of `const` before it, breaks off where it is not read
+pub bare_base_at_fault : (limit d : ℕ) (symbols : List Symbol) (fault : Fault) → d ≤ limit → bare_base_at symbols ≡ Err fault → FaultStands limit (some_bare_base d) symbols fault
 unfolding bare_base_at
 bare_base_at_fault limit d [] fault h e = unexpected_stands limit (some_bare_base d) (base_mark d) [] fault (base.Char, (0, refl)) e
 bare_base_at_fault limit d (symbol.Keyword at keywords.Char ∷ rest) fault h e = no_fault _ fault e

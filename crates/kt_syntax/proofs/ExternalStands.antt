@@ -30,7 +30,7 @@ use Rattle.kt_syntax.proofs.DeclaratorStands.{stars_at_stands, pointer_at_stands
 use Rattle.kt_syntax.proofs.StatementStands.{body_stands}
 
 -- a pointer without an extent is its stars
-bare_stars_stand : (limit : ℕ) (p : Option Pointer) (s : Option Stars) (symbols rest : List Symbol) → bare_stars p ≡ Some s → Stands limit (maybe (pointer 0) p) symbols rest → Stands limit (maybe (stars 0) s) symbols rest
+pub bare_stars_stand : (limit : ℕ) (p : Option Pointer) (s : Option Stars) (symbols rest : List Symbol) → bare_stars p ≡ Some s → Stands limit (maybe (pointer 0) p) symbols rest → Stands limit (maybe (stars 0) s) symbols rest
 bare_stars_stand limit None s symbols rest e front = subst (λ (o : Option Stars). Stands limit (maybe (stars 0) o) symbols rest) (same_Some None s e) front
 bare_stars_stand limit (Some p) s symbols rest e front = elim (picked p.extent _ _ (Some s) e) [
   | inl none ↦
@@ -49,14 +49,14 @@ at_end [] e = refl
 at_end (first ∷ rest) e = not_true e
 
 module _ (n : ℕ) where
-  low : 0 ≤ n
+  pub low : 0 ≤ n
   low = omega arith
 
   -- what leads a declaration, and is not in its tree
-  no_leading : (symbols : List Symbol) → Stands n leading symbols symbols
+  pub no_leading : (symbols : List Symbol) → Stands n leading symbols symbols
   no_leading symbols = record { marks = []; parts = refl; spelled = tt; shallow = tt }
 
-  count_leading_stands : (symbols : List Symbol) → Stands n leading symbols (drop (count_leading symbols) symbols)
+  pub count_leading_stands : (symbols : List Symbol) → Stands n leading symbols (drop (count_leading symbols) symbols)
   unfolding count_leading
   count_leading_stands (symbol.Keyword at keywords.Static ∷ rest) =
       let more = count_leading_stands rest in
@@ -78,7 +78,7 @@ module _ (n : ℕ) where
 
   -- ---- globals
 
-  more_globals : (first : GlobalDeclarator) (symbols middle : List Symbol) (x : List GlobalDeclarator × List Symbol) → Stands n (global 0 first) symbols middle
+  pub more_globals : (first : GlobalDeclarator) (symbols middle : List Symbol) (x : List GlobalDeclarator × List Symbol) → Stands n (global 0 first) symbols middle
       → (if begins_sign signs.Comma middle then listed_at global_at (length middle) (first ∷ []) (drop 1 middle) else Ok (first ∷ [], middle)) ≡ Ok x → Stands n (separated 0 (global 0) x.0) symbols x.1
   more_globals first symbols middle x one e =
       let Found : List GlobalDeclarator × List Symbol → Type 0 = λ y. Stands n (separated 0 (global 0) y.0) symbols y.1 in
@@ -143,7 +143,7 @@ module _ (n : ℕ) where
             (stands_joined (subst (λ (ps : List Parameter). Stands n (parameters ps) symbols l.value.1) (sym all.is) all.stands) (behind_stands n 0 signs.CloseParenthesis l.value.1 t.value low t.gave))
       ]
 
-  parameters_behind_stands : ReadStands n (λ ps. parameters ps · sign 0 signs.CloseParenthesis) parameters_behind
+  pub parameters_behind_stands : ReadStands n (λ ps. parameters ps · sign 0 signs.CloseParenthesis) parameters_behind
   unfolding parameters_behind
   parameters_behind_stands (symbol.Keyword at keywords.Void ∷ rest) x e =
       let t = bind_ok (behind signs.CloseParenthesis rest) _ x e in
@@ -169,7 +169,7 @@ module _ (n : ℕ) where
           definition_behind_stands false symbols symbols o.value x (nothing_stands n symbols) (behind_stands n 0 signs.OpenBrace symbols o.value low o.gave) o.then_gave
     ]
 
-    body_at_stands : ReadStands n body (body_at n)
+    pub body_at_stands : ReadStands n body (body_at n)
     unfolding body_at
     body_at_stands (symbol.Keyword at keywords.NoteLocals ∷ rest) x e =
         let o = bind_ok (behind signs.OpenBrace rest) _ x e in
@@ -248,7 +248,7 @@ module _ (n : ℕ) where
           ]
         ]
 
-    external_at_stands : ReadStands n external (external_at n)
+    pub external_at_stands : ReadStands n external (external_at n)
     unfolding external_at
     external_at_stands (symbol.Keyword at keywords.Struct ∷ rest) x e = struct_at_stands at rest x e
     external_at_stands symbols x e = typed_at_stands symbols (drop (count_leading symbols) symbols) x (count_leading_stands symbols) e

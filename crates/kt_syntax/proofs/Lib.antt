@@ -4,3 +4,4 @@ pub mod ExternalStands
 pub mod FaultSteps
 pub mod DeclaratorFaults
 pub mod StatementFaults
+pub mod ExternalFaults

@@ -97,7 +97,7 @@ condition_of d m j = (j.second.first.0, rejoined j j.first (rejoined j.second j.
 condition_blank : (d : ℕ) → Blank (any (condition d))
 condition_blank d = blank_as (condition_of d) (blank_joined (sign_blank d signs.OpenParenthesis) (blank_joined (expr_blank (suc d)) (sign_blank d signs.CloseParenthesis)))
 
-entries_blank : (d : ℕ) → Blank (any (entries d))
+pub entries_blank : (d : ℕ) → Blank (any (entries d))
 entries_blank d = ([], (Nothing, refl))
 
 -- a keyword that is not there could be
