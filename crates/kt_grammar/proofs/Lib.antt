@@ -1,3 +1,4 @@
 pub mod ExprFaults
 pub mod ExprStands
+pub mod Local
 mod Operators

@@ -9,3 +9,4 @@ pub mod Cut
 pub mod Laws
 pub mod StandsLaws
 pub mod FaultLaws
+pub mod Locality
