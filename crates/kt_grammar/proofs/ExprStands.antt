@@ -9,6 +9,7 @@ use Rattle.kt_grammar.specs.declared.symbol.Symbol.{Symbol}
 use Rattle.kt_grammar.specs.declared.symbol.Symbol.TheVariants as symbol
 use Rattle.kt_grammar.specs.declared.operator.Dialect.{Dialect}
 use Rattle.kt_grammar.specs.declared.operator.PrefixOperator.{PrefixOperator}
+use Rattle.kt_grammar.specs.declared.operator.StepOperator.{StepOperator}
 use Rattle.kt_grammar.specs.declared.operator.BinaryOperator.{BinaryOperator}
 use Rattle.kt_grammar.specs.declared.tree.Name.{Name}
 use Rattle.kt_grammar.specs.Tree.{Term, Constant, Character, Text, Null, Eof, Named, Called, Parenthesised, SizeOf, RuleValue, OldSymbol, Transformed, Element, Member, Pointed, Stepped, Prefixed, Converted, Operated, Chosen, Assigned, terms_of}
@@ -22,39 +23,39 @@ use Rattle.kt_grammar.specs.StandsLaws.{no_value, by_value, bind_ok, chosen, cho
 use Rattle.kt_grammar.proofs.Operators.{picked, prefix_of-is, step_of-is, sign_is_stands, binary_here-is, assign_here-is}
 
 -- what stands behind an expression and makes another of it
-abbrev continues : Dialect → ℕ → Term → Term → List Mark → Type 0
+abbrev pub continues : Dialect → ℕ → Term → Term → List Mark → Type 0
 continues g d x y marks = (before : List Mark) → spells g d x before → spells g d y (before ++ marks)
 
 -- an expression of at least a level stands there
-record LevelStands (g : Dialect) (limit d least : ℕ) (symbols : List Symbol) (y : Term × List Symbol) : Type 0 where
-  stands : Stands limit (spells g d y.0) symbols y.1
-  at_least : least ≤ level y.0
+pub record LevelStands (g : Dialect) (limit d least : ℕ) (symbols : List Symbol) (y : Term × List Symbol) : Type 0 where
+  pub stands : Stands limit (spells g d y.0) symbols y.1
+  pub at_least : least ≤ level y.0
 
 -- what makes of x an expression of at least a level stands there
-record GoesOn (g : Dialect) (limit d least : ℕ) (x : Term) (symbols : List Symbol) (y : Term × List Symbol) : Type 0 where
-  stands : Stands limit (continues g d x y.0) symbols y.1
-  at_least : least ≤ level y.0
+pub record GoesOn (g : Dialect) (limit d least : ℕ) (x : Term) (symbols : List Symbol) (y : Term × List Symbol) : Type 0 where
+  pub stands : Stands limit (continues g d x y.0) symbols y.1
+  pub at_least : least ≤ level y.0
 
 -- what these read at a depth stands there
-record IsSound (g : Dialect) (limit d : ℕ) (r : Readers) : Type 0 where
-  within : d ≤ limit
-  level_is : (least : ℕ) (symbols : List Symbol) (y : Term × List Symbol) → least ≤ 8 → r.level least symbols ≡ Ok y → LevelStands g limit d least symbols y
-  chain_is : (start l : ℕ) (x : Term) (symbols : List Symbol) (y : Term × List Symbol) → start + links_at l x ≡ d → l ≤ 7 → l ≤ level x → r.chain l x symbols ≡ Ok y → GoesOn g limit start l x symbols y
-  postfix_is : (start : ℕ) (x : Term) (symbols : List Symbol) (y : Term × List Symbol) → start + links x ≡ d → 9 ≤ level x → r.postfix x symbols ≡ Ok y → GoesOn g limit start 9 x symbols y
+pub record IsSound (g : Dialect) (limit d : ℕ) (r : Readers) : Type 0 where
+  pub within : d ≤ limit
+  pub level_is : (least : ℕ) (symbols : List Symbol) (y : Term × List Symbol) → least ≤ 8 → r.level least symbols ≡ Ok y → LevelStands g limit d least symbols y
+  pub chain_is : (start l : ℕ) (x : Term) (symbols : List Symbol) (y : Term × List Symbol) → start + links_at l x ≡ d → l ≤ 7 → l ≤ level x → r.chain l x symbols ≡ Ok y → GoesOn g limit start l x symbols y
+  pub postfix_is : (start : ℕ) (x : Term) (symbols : List Symbol) (y : Term × List Symbol) → start + links x ≡ d → 9 ≤ level x → r.postfix x symbols ≡ Ok y → GoesOn g limit start 9 x symbols y
 
-abbrev AreSound : Dialect → ℕ → ℕ → Option Readers → Type 0
+abbrev pub AreSound : Dialect → ℕ → ℕ → Option Readers → Type 0
 AreSound g limit d None = Unit {0}
 AreSound g limit d (Some r) = IsSound g limit d r
 
 -- ---- going on
 
-goes_nowhere : (g : Dialect) (limit d least : ℕ) (x : Term) (symbols : List Symbol) → least ≤ level x → GoesOn g limit d least x symbols (x, symbols)
+pub goes_nowhere : (g : Dialect) (limit d least : ℕ) (x : Term) (symbols : List Symbol) → least ≤ level x → GoesOn g limit d least x symbols (x, symbols)
 goes_nowhere g limit d least x symbols h = record {
   stands = stands_as (continues g d x x) (λ m n before s. subst (spells g d x) (sym (append-nil before) ∙ ap (λ (m : List Mark). before ++ m) (sym n)) s) (nothing_stands limit symbols);
   at_least = h;
 }
 
-goes_further : (g : Dialect) (limit d k l : ℕ) (x : Term) (symbols : List Symbol) (y z : Term × List Symbol) → GoesOn g limit d k x symbols y → GoesOn g limit d l y.0 y.1 z → GoesOn g limit d l x symbols z
+pub goes_further : (g : Dialect) (limit d k l : ℕ) (x : Term) (symbols : List Symbol) (y z : Term × List Symbol) → GoesOn g limit d k x symbols y → GoesOn g limit d l y.0 y.1 z → GoesOn g limit d l x symbols z
 goes_further g limit d k l x symbols y z a b = record {
   stands = stands_as (continues g d x z.0)
       (λ m j before s. subst (spells g d z.0) (append_assoc before j.front j.back ∙ ap (λ (m : List Mark). before ++ m) (sym j.parts)) (j.second (before ++ j.front) (j.first before s)))
@@ -62,36 +63,40 @@ goes_further g limit d k l x symbols y z a b = record {
   at_least = b.at_least;
 }
 
-goes_behind : (g : Dialect) (limit d l : ℕ) (symbols : List Symbol) (x y : Term × List Symbol) → Stands limit (spells g d x.0) symbols x.1 → GoesOn g limit d l x.0 x.1 y → LevelStands g limit d l symbols y
+pub goes_behind : (g : Dialect) (limit d l : ℕ) (symbols : List Symbol) (x y : Term × List Symbol) → Stands limit (spells g d x.0) symbols x.1 → GoesOn g limit d l x.0 x.1 y → LevelStands g limit d l symbols y
 goes_behind g limit d l symbols x y a b = record {
   stands = stands_as (spells g d y.0) (λ m j. subst (spells g d y.0) (sym j.parts) (j.second j.front j.first)) (stands_joined a b.stands);
   at_least = b.at_least;
 }
 
 -- one more part behind an expression
-goes_once : (g : Dialect) (limit d l : ℕ) (x y : Term) (symbols rest : List Symbol) (B : List Mark → Type 0) → ((marks : List Mark) → Joined (spells g d x) B marks → spells g d y marks) → l ≤ level y → Stands limit B symbols rest
+pub continued : (g : Dialect) (d : ℕ) (x y : Term) (B : List Mark → Type 0) → ((marks : List Mark) → Joined (spells g d x) B marks → spells g d y marks) → (marks : List Mark) → B marks → continues g d x y marks
+continued g d x y B f marks b before a = f (before ++ marks) (record { front = before; back = marks; parts = refl; first = a; second = b })
+
+-- one more part stands behind an expression
+pub goes_once : (g : Dialect) (limit d l : ℕ) (x y : Term) (symbols rest : List Symbol) (B : List Mark → Type 0) → ((marks : List Mark) → Joined (spells g d x) B marks → spells g d y marks) → l ≤ level y → Stands limit B symbols rest
     → GoesOn g limit d l x symbols (y, rest)
 goes_once g limit d l x y symbols rest B f h s = record {
-  stands = stands_as (continues g d x y) (λ m b before a. f (before ++ m) (record { front = before; back = m; parts = refl; first = a; second = b })) s;
+  stands = stands_as (continues g d x y) (continued g d x y B f) s;
   at_least = h;
 }
 
 -- ---- one deeper
 
-deep-is : {A : Type 0} (r : Option Readers) (begins : List Symbol → Bool) (read : Readers → List Symbol → Result A _) (symbols : List Symbol) (y : A) → deep r begins read symbols ≡ Ok y → (s : Readers) × (r ≡ Some s) × (read s symbols ≡ Ok y)
+pub deep-is : {A : Type 0} (r : Option Readers) (begins : List Symbol → Bool) (read : Readers → List Symbol → Result A _) (symbols : List Symbol) (y : A) → deep r begins read symbols ≡ Ok y → (s : Readers) × (r ≡ Some s) × (read s symbols ≡ Ok y)
 deep-is None begins read symbols y e = elim (chosen (begins symbols) _ _ (Ok y) e) [
   | inl c ↦ no_value _ y c.1
   | inr c ↦ no_value _ y c.1
 ]
 deep-is (Some s) begins read symbols y e = (s, refl, e)
 
-deep_level-is : (g : Dialect) (limit d : ℕ) (r : Option Readers) → AreSound g limit d r → (least : ℕ) (symbols : List Symbol) (y : Term × List Symbol) → least ≤ 8 → deep_level g r least symbols ≡ Ok y → LevelStands g limit d least symbols y
+pub deep_level-is : (g : Dialect) (limit d : ℕ) (r : Option Readers) → AreSound g limit d r → (least : ℕ) (symbols : List Symbol) (y : Term × List Symbol) → least ≤ 8 → deep_level g r least symbols ≡ Ok y → LevelStands g limit d least symbols y
 deep_level-is g limit d r sound least symbols y h e =
     let s = deep-is r (begins_expr g) (λ r. r.level least) symbols y e in
     let one : IsSound g limit d s.0 = subst (AreSound g limit d) s.1 sound in
     one.level_is least symbols y h s.2
 
-more_at-is : (g : Dialect) (limit d : ℕ) (r : Option Readers) → AreSound g limit d r → (start : ℕ) (x : Term) (symbols : List Symbol) (y : Term × List Symbol) → start + links x ≡ d → 9 ≤ level x → more_at g r x symbols ≡ Ok y
+pub more_at-is : (g : Dialect) (limit d : ℕ) (r : Option Readers) → AreSound g limit d r → (start : ℕ) (x : Term) (symbols : List Symbol) (y : Term × List Symbol) → start + links x ≡ d → 9 ≤ level x → more_at g r x symbols ≡ Ok y
     → GoesOn g limit start 9 x symbols y
 more_at-is g limit d None sound start x symbols y at h e =
     let c = chosen_second (begins_postfix g symbols) (Ok (x, symbols)) _ y e in
@@ -105,49 +110,54 @@ module _ (g : Dialect) (limit start : ℕ) (r : Option Readers) (x : Term) (h : 
   one_more : (made : Term) (rest : List Symbol) (y : Term × List Symbol) → links made ≡ suc (links x) → 9 ≤ level made → more_at g r made rest ≡ Ok y → GoesOn g limit start 9 made rest y
   one_more made rest y more high e = more_at-is g limit (suc (start + links x)) r sound start made rest y (let m : start + suc (links x) ≡ suc (start + links x) = omega arith in ap (λ k. start + k) more ∙ m) high e
 
+  pub index_once : (symbols inner : List Symbol) (i : Term × List Symbol) (rest : List Symbol) → Stands limit (sign_token (start + links x) sign.OpenBracket) symbols inner
+      → LevelStands g limit (suc (start + links x)) 0 inner i → behind sign.CloseBracket i.1 ≡ Ok rest → GoesOn g limit start 9 x symbols (Element x i.0, rest)
+  index_once symbols inner i rest opened inside e = goes_once g limit start 9 x (Element x i.0) symbols rest _ (λ m j. (le-leb 9 (level x) h, j)) (omega arith)
+      (stands_joined opened (stands_joined inside.stands (behind_stands limit (start + links x) sign.CloseBracket i.1 rest within e)))
+
   index_at-is : (symbols inner : List Symbol) (y : Term × List Symbol) → Stands limit (sign_token (start + links x) sign.OpenBracket) symbols inner → index_at g r x inner ≡ Ok y → GoesOn g limit start 9 x symbols y
   unfolding index_at
   index_at-is symbols inner y opened e =
       let i = bind_ok (deep_level g r 0 inner) _ y e in
       let t = bind_ok (behind sign.CloseBracket i.value.1) _ y i.then_gave in
       let inside = deep_level-is g limit (suc (start + links x)) r sound 0 inner i.value (omega arith) i.gave in
-      let made = Element x i.value.0 in
-      goes_further g limit start 9 9 x symbols (made, t.value) y
-      (goes_once g limit start 9 x made symbols t.value _ (λ m j. (le-leb 9 (level x) h, j)) (omega arith)
-      (stands_joined opened (stands_joined inside.stands (behind_stands limit (start + links x) sign.CloseBracket i.value.1 t.value within t.gave))))
-      (one_more made t.value y refl (omega arith) t.then_gave)
+      goes_further g limit start 9 9 x symbols (Element x i.value.0, t.value) y (index_once symbols inner i.value t.value opened inside t.gave)
+      (one_more (Element x i.value.0) t.value y refl (omega arith) t.then_gave)
+
+  pub member_once : (symbols inner : List Symbol) (n : Name × List Symbol) → Stands limit (sign_token (start + links x) sign.Dot) symbols inner → name_at inner ≡ Ok n → GoesOn g limit start 9 x symbols (Member x n.0, n.1)
+  member_once symbols inner n dot e = goes_once g limit start 9 x (Member x n.0) symbols n.1 _ (λ m j. (le-leb 9 (level x) h, j)) (omega arith)
+      (stands_joined dot (name_at_stands limit (start + links x) inner n within e))
 
   member_at-is : (symbols inner : List Symbol) (y : Term × List Symbol) → Stands limit (sign_token (start + links x) sign.Dot) symbols inner
       → (name_at inner >>= λ n. more_at g r (Member x n.0) n.1) ≡ Ok y → GoesOn g limit start 9 x symbols y
   member_at-is symbols inner y dot e =
       let n = bind_ok (name_at inner) _ y e in
-      let made = Member x n.value.0 in
-      goes_further g limit start 9 9 x symbols (made, n.value.1) y
-      (goes_once g limit start 9 x made symbols n.value.1 _ (λ m j. (le-leb 9 (level x) h, j)) (omega arith)
-      (stands_joined dot (name_at_stands limit (start + links x) inner n.value within n.gave)))
-      (one_more made n.value.1 y refl (omega arith) n.then_gave)
+      goes_further g limit start 9 9 x symbols (Member x n.value.0, n.value.1) y (member_once symbols inner n.value dot n.gave)
+      (one_more (Member x n.value.0) n.value.1 y refl (omega arith) n.then_gave)
+
+  pub pointed_once : (symbols inner : List Symbol) (n : Name × List Symbol) → Stands limit (sign_token (start + links x) sign.Arrow) symbols inner → name_at inner ≡ Ok n → GoesOn g limit start 9 x symbols (Pointed x n.0, n.1)
+  pointed_once symbols inner n arrow e = goes_once g limit start 9 x (Pointed x n.0) symbols n.1 _ (λ m j. (le-leb 9 (level x) h, j)) (omega arith)
+      (stands_joined arrow (name_at_stands limit (start + links x) inner n within e))
 
   pointed_at-is : (symbols inner : List Symbol) (y : Term × List Symbol) → Stands limit (sign_token (start + links x) sign.Arrow) symbols inner
       → (name_at inner >>= λ n. more_at g r (Pointed x n.0) n.1) ≡ Ok y → GoesOn g limit start 9 x symbols y
   pointed_at-is symbols inner y arrow e =
       let n = bind_ok (name_at inner) _ y e in
-      let made = Pointed x n.value.0 in
-      goes_further g limit start 9 9 x symbols (made, n.value.1) y
-      (goes_once g limit start 9 x made symbols n.value.1 _ (λ m j. (le-leb 9 (level x) h, j)) (omega arith)
-      (stands_joined arrow (name_at_stands limit (start + links x) inner n.value within n.gave)))
-      (one_more made n.value.1 y refl (omega arith) n.then_gave)
+      goes_further g limit start 9 9 x symbols (Pointed x n.value.0, n.value.1) y (pointed_once symbols inner n.value arrow n.gave)
+      (one_more (Pointed x n.value.0) n.value.1 y refl (omega arith) n.then_gave)
+
+  pub step_once : (at : ℕ) (s : Sign) (op : StepOperator) (rest : List Symbol) → step_of g s ≡ Some op → GoesOn g limit start 9 x (symbol.Sign at s ∷ rest) (Stepped x op, rest)
+  step_once at s op rest e =
+      let is = step_of-is g s op e in
+      goes_once g limit start 9 x (Stepped x op) (symbol.Sign at s ∷ rest) rest _ (λ m j. (is.0, (le-leb 9 (level x) h, j))) (omega arith)
+      (sign_is_stands limit (start + links x) at s (step_sign op) rest within is.1)
 
   stepped_at-is : (at : ℕ) (s : Sign) (rest : List Symbol) (y : Term × List Symbol) → stepped_at g r x s (symbol.Sign at s ∷ rest) rest ≡ Ok y → GoesOn g limit start 9 x (symbol.Sign at s ∷ rest) y
   unfolding stepped_at
   stepped_at-is at s rest y e = elim (picked (step_of g s) _ _ (Ok y) e) [
     | inl none ↦ by_value (GoesOn g limit start 9 x (symbol.Sign at s ∷ rest)) (x, symbol.Sign at s ∷ rest) y none.1 (goes_nowhere g limit start 9 x (symbol.Sign at s ∷ rest) h)
-    | inr some ↦
-        let is = step_of-is g s some.0 some.1 in
-        let made = Stepped x some.0 in
-        goes_further g limit start 9 9 x (symbol.Sign at s ∷ rest) (made, rest) y
-        (goes_once g limit start 9 x made (symbol.Sign at s ∷ rest) rest _ (λ m j. (is.0, (le-leb 9 (level x) h, j))) (omega arith)
-        (sign_is_stands limit (start + links x) at s (step_sign some.0) rest within is.1))
-        (one_more made rest y refl (omega arith) some.2)
+    | inr some ↦ goes_further g limit start 9 9 x (symbol.Sign at s ∷ rest) (Stepped x some.0, rest) y (step_once at s some.0 rest some.1)
+        (one_more (Stepped x some.0) rest y refl (omega arith) some.2)
   ]
 
   signed_postfix_at-is : (at : ℕ) (s : Sign) (rest : List Symbol) (y : Term × List Symbol) → postfix_at g r x (symbol.Sign at s ∷ rest) ≡ Ok y → GoesOn g limit start 9 x (symbol.Sign at s ∷ rest) y
@@ -166,7 +176,7 @@ module _ (g : Dialect) (limit start : ℕ) (r : Option Readers) (x : Term) (h : 
         ]
       ]
 
-  postfix_at-is : (symbols : List Symbol) (y : Term × List Symbol) → postfix_at g r x symbols ≡ Ok y → GoesOn g limit start 9 x symbols y
+  pub postfix_at-is : (symbols : List Symbol) (y : Term × List Symbol) → postfix_at g r x symbols ≡ Ok y → GoesOn g limit start 9 x symbols y
   unfolding postfix_at
   postfix_at-is (symbol.Sign at s ∷ rest) y e = signed_postfix_at-is at s rest y e
   postfix_at-is [] y e = by_value (GoesOn g limit start 9 x []) (x, []) y e (goes_nowhere g limit start 9 x [] h)
@@ -175,12 +185,30 @@ module _ (g : Dialect) (limit start : ℕ) (r : Option Readers) (x : Term) (h : 
 -- ---- chains of binary operators
 
 -- an expression of a higher level has no operator of this one
-no_links : (l : ℕ) (x : Term) → suc l ≤ level x → links_at l x ≡ 0
+pub no_links : (l : ℕ) (x : Term) → suc l ≤ level x → links_at l x ≡ 0
 no_links l x h = ap (λ (t : Bool). cond t (links x) 0) (ne_eqb (level x) l (λ e. let clash : ⊥ = omega arith in clash))
 
 -- a chain is one operator longer with the next one
 one_link : (op : BinaryOperator) (x y : Term) → links_at (precedence op) (Operated op x y) ≡ suc (links_at (precedence op) x)
 one_link op x y = ap (λ (t : Bool). cond t (suc (links_at (precedence op) x)) 0) (eq-eqb (precedence op) (precedence op) refl)
+
+-- the operator of a level and its right operand, behind the left one
+pub operated : (g : Dialect) (start l : ℕ) (op : BinaryOperator) (x y : Term) → precedence op ≡ l → l ≤ level x → suc l ≤ level y → (marks : List Mark)
+    → Joined (spells g start x) (sign_token (start + links_at l x) (binary_sign op) · spells g (suc (start + links_at l x)) y) marks → spells g start (Operated op x y) marks
+operated g start l op x y is low high marks j =
+    subst (λ (l : ℕ). l ≤ level x → suc l ≤ level y → Joined (spells g start x) (sign_token (start + links_at l x) (binary_sign op) · spells g (suc (start + links_at l x)) y) marks → spells g start (Operated op x y) marks) is
+    (λ low high j. (le-leb (precedence op) (level x) low, (lt-ltb (precedence op) (level y) high, j))) low high j
+
+-- the next operator of a chain is one deeper
+pub deeper_link : (start l : ℕ) (op : BinaryOperator) (x y : Term) → precedence op ≡ l → start + links_at l (Operated op x y) ≡ suc (start + links_at l x)
+deeper_link start l op x y is = subst (λ (l : ℕ). start + links_at l (Operated op x y) ≡ suc (start + links_at l x)) is (ap (λ k. start + k) (one_link op x y) ∙ omega arith)
+
+pub chain_once : (g : Dialect) (limit start l : ℕ) (x : Term) (symbols : List Symbol) (op : BinaryOperator) (y : Term × List Symbol) → l ≤ level x → precedence op ≡ l
+    → Stands limit (sign_token (start + links_at l x) (binary_sign op)) symbols (drop 1 symbols) → LevelStands g limit (suc (start + links_at l x)) (suc l) (drop 1 symbols) y
+    → GoesOn g limit start l x symbols (Operated op x y.0, y.1)
+chain_once g limit start l x symbols op y h is front right =
+    goes_once g limit start l x (Operated op x y.0) symbols y.1 (sign_token (start + links_at l x) (binary_sign op) · spells g (suc (start + links_at l x)) y.0)
+    (operated g start l op x y.0 is h right.at_least) (le_of_eq (sym is)) (stands_joined front right.stands)
 
 chain_with : (g : Dialect) (limit start l : ℕ) (r : Readers) (x : Term) (symbols : List Symbol) (op : BinaryOperator) (y : Term × List Symbol) → l ≤ 7 → l ≤ level x → IsSound g limit (suc (start + links_at l x)) r
     → precedence op ≡ l → Stands limit (sign_token (start + links_at l x) (binary_sign op)) symbols (drop 1 symbols)
@@ -189,15 +217,8 @@ chain_with g limit start l r x symbols op y small h sound is front e =
     let s = bind_ok (r.level (suc l) (drop 1 symbols)) _ y e in
     let right = sound.level_is (suc l) (drop 1 symbols) s.value (omega arith) s.gave in
     let made = Operated op x s.value.0 in
-    let at : start + links_at l made ≡ suc (start + links_at l x) =
-    subst (λ (l : ℕ). start + links_at l made ≡ suc (start + links_at l x)) is (ap (λ k. start + k) (one_link op x s.value.0) ∙ omega arith) in
-    goes_further g limit start l l x symbols (made, s.value.1) y
-    (goes_once g limit start l x made symbols s.value.1 (sign_token (start + links_at l x) (binary_sign op) · spells g (suc (start + links_at l x)) s.value.0)
-    (λ m j. subst (λ (l : ℕ). l ≤ level x → suc l ≤ level s.value.0 → Joined (spells g start x) (sign_token (start + links_at l x) (binary_sign op) · spells g (suc (start + links_at l x)) s.value.0) m → spells g start made m) is
-    (λ low high j. (le-leb (precedence op) (level x) low, (lt-ltb (precedence op) (level s.value.0) high, j))) h right.at_least j)
-    (le_of_eq (sym is))
-    (stands_joined front right.stands))
-    (sound.chain_is start l made s.value.1 y at small (le_of_eq (sym is)) s.then_gave)
+    goes_further g limit start l l x symbols (made, s.value.1) y (chain_once g limit start l x symbols op s.value h is front right)
+    (sound.chain_is start l made s.value.1 y (deeper_link start l op x s.value.0 is) small (le_of_eq (sym is)) s.then_gave)
 
 chain_at-is : (g : Dialect) (limit start l : ℕ) (r : Option Readers) (x : Term) → l ≤ 7 → l ≤ level x → start + links_at l x ≤ limit → AreSound g limit (suc (start + links_at l x)) r
     → (symbols : List Symbol) (y : Term × List Symbol) → chain_at g r l x symbols ≡ Ok y → GoesOn g limit start l x symbols y
@@ -242,7 +263,7 @@ module _ (g : Dialect) (limit d : ℕ) (r : Option Readers) (within : d ≤ limi
         (stands_joined front.1 right.stands))
   ]
 
-  tail_at-is : (l : ℕ) (x : Term) (symbols : List Symbol) (y : Term × List Symbol) → l ≤ 7 → suc l ≤ level x → tail_at g r l x symbols ≡ Ok y → GoesOn g limit d l x symbols y
+  pub tail_at-is : (l : ℕ) (x : Term) (symbols : List Symbol) (y : Term × List Symbol) → l ≤ 7 → suc l ≤ level x → tail_at g r l x symbols ≡ Ok y → GoesOn g limit d l x symbols y
   unfolding tail_at
   tail_at-is zero x symbols y small h e = assignment_at-is x symbols y h e
   tail_at-is (suc zero) x symbols y small h e = choice_at-is x symbols y h e
@@ -262,16 +283,16 @@ module _ (g : Dialect) (limit d : ℕ) (r : Option Readers) (within : d ≤ limi
 -- ---- primary expressions
 
 -- a primary expression stands there
-record PrimaryStands (g : Dialect) (limit d : ℕ) (symbols : List Symbol) (y : Term × List Symbol) : Type 0 where
-  stands : Stands limit (spells g d y.0) symbols y.1
-  level_is : level y.0 ≡ 9
-  links_are : links y.0 ≡ 0
+pub record PrimaryStands (g : Dialect) (limit d : ℕ) (symbols : List Symbol) (y : Term × List Symbol) : Type 0 where
+  pub stands : Stands limit (spells g d y.0) symbols y.1
+  pub level_is : level y.0 ≡ 9
+  pub links_are : links y.0 ≡ 0
 
 primary : {g : Dialect} {limit d : ℕ} {symbols rest : List Symbol} (x : Term) (y : Term × List Symbol) → ◌≡◌ {A = Outcome Term} (Ok (x, rest)) (Ok y) → level x ≡ 9 → links x ≡ 0 → Stands limit (spells g d x) symbols rest → PrimaryStands g limit d symbols y
 primary {g} {limit} {d} {symbols} {rest} x y e l k s = by_value (PrimaryStands g limit d symbols) (x, rest) y e (record { stands = s; level_is = l; links_are = k })
 
 -- what is listed are arguments
-listed_arguments : (g : Dialect) (d : ℕ) (items : List Term) (marks : List Mark) → listed d (spells g d) items marks → arguments g d (terms_of items) marks
+pub listed_arguments : (g : Dialect) (d : ℕ) (items : List Term) (marks : List Mark) → listed d (spells g d) items marks → arguments g d (terms_of items) marks
 listed_arguments g d [] marks l = l
 listed_arguments g d (x ∷ []) marks l = l
 listed_arguments g d (x ∷ y ∷ items) marks l = record {
@@ -289,7 +310,7 @@ listed_arguments g d (x ∷ y ∷ items) marks l = record {
 }
 
 module _ (g : Dialect) (limit d : ℕ) (r : Option Readers) (within : d ≤ limit) (sound : AreSound g limit (suc d) r) where
-  listed_terms : (s : Readers) → r ≡ Some s → (symbols : List Symbol) (y : List Term × List Symbol) → listed_at (s.level 0) (length symbols) [] symbols ≡ Ok y
+  pub listed_terms : (s : Readers) → r ≡ Some s → (symbols : List Symbol) (y : List Term × List Symbol) → listed_at (s.level 0) (length symbols) [] symbols ≡ Ok y
       → Stands limit (arguments g (suc d) (terms_of y.0)) symbols y.1
   listed_terms s is symbols y e =
       let one : IsSound g limit (suc d) s = subst (AreSound g limit (suc d)) is sound in
@@ -297,7 +318,7 @@ module _ (g : Dialect) (limit d : ℕ) (r : Option Readers) (within : d ≤ limi
       subst (λ (items : List Term). Stands limit (arguments g (suc d) (terms_of items)) symbols y.1) (sym l.is)
       (stands_as (arguments g (suc d) (terms_of (l.first ∷ l.others))) (listed_arguments g (suc d) (l.first ∷ l.others)) l.stands)
 
-  arguments_at-is : (symbols : List Symbol) (y : List Term × List Symbol) → arguments_at g r symbols ≡ Ok y
+  pub arguments_at-is : (symbols : List Symbol) (y : List Term × List Symbol) → arguments_at g r symbols ≡ Ok y
       → Stands limit (arguments g (suc d) (terms_of y.0) · sign_token d sign.CloseParenthesis) symbols y.1
   unfolding arguments_at
   arguments_at-is symbols y e =
@@ -361,7 +382,7 @@ module _ (g : Dialect) (limit d : ℕ) (r : Option Readers) (within : d ≤ limi
       primary (SizeOf at t.value.0) y t.then_gave refl refl
       (stands_when (is_c g) c (stands_joined (token_stands limit d (symbol.Keyword at keywords.SizeOf) rest within) (between_at_stands limit d rest t.value within t.gave)))
 
-  primary_at-is : (symbols : List Symbol) (y : Term × List Symbol) → primary_at g r symbols ≡ Ok y → PrimaryStands g limit d symbols y
+  pub primary_at-is : (symbols : List Symbol) (y : Term × List Symbol) → primary_at g r symbols ≡ Ok y → PrimaryStands g limit d symbols y
   unfolding primary_at
   primary_at-is [] y e = no_value _ y e
   primary_at-is (symbol.Name at word ∷ rest) y e =
@@ -452,7 +473,7 @@ module _ (g : Dialect) (limit d : ℕ) (r : Option Readers) (within : d ≤ limi
     | inr c ↦ prefixed_at-is at s (prefix_of g s) rest y refl c.1
   ]
 
-  unary_at-is : (symbols : List Symbol) (y : Term × List Symbol) → unary_at g r symbols ≡ Ok y → LevelStands g limit d 8 symbols y
+  pub unary_at-is : (symbols : List Symbol) (y : Term × List Symbol) → unary_at g r symbols ≡ Ok y → LevelStands g limit d 8 symbols y
   unfolding unary_at
   unary_at-is (symbol.Sign at s ∷ rest) y e = unary_sign_at-is at s rest y e
   unary_at-is [] y e = no_value _ y e
@@ -482,7 +503,7 @@ module _ (g : Dialect) (limit d : ℕ) (r : Option Readers) (within : d ≤ limi
 
 -- ---- at any depth
 
-deeper-is : (g : Dialect) (limit n d : ℕ) → d + n ≡ limit → AreSound g limit (suc d) (deeper g n)
+pub deeper-is : (g : Dialect) (limit n d : ℕ) → d + n ≡ limit → AreSound g limit (suc d) (deeper g n)
 unfolding deeper
 deeper-is g limit zero d at = tt
 deeper-is g limit (suc n) d at = readers_are g limit (suc d) (deeper g n) (omega arith) (deeper-is g limit n (suc d) (omega arith))

@@ -1,2 +1,4 @@
-mod Operators
+pub mod ExprFaults
 pub mod ExprStands
+pub mod Local
+mod Operators

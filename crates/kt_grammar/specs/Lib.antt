@@ -10,3 +10,4 @@ pub mod Laws
 pub mod StandsLaws
 pub mod CutLaws
 pub mod FaultLaws
+pub mod Locality
