@@ -21,7 +21,7 @@ use Rattle.kt_grammar.specs.Marks.{Mark, token, sign as sign_token, name, Joined
 use Rattle.kt_grammar.specs.Spelling.{level, links, links_at, spells, arguments}
 use Rattle.kt_grammar.specs.Cursor.{◌>>=◌, Outcome, unexpected, begins_sign, behind, name_at, listed_at}
 use Rattle.kt_grammar.specs.Reading.{Readers, begins_base, begins_expr, begins_postfix, type_at, between_at, deep, deep_level, more_at, index_at, stepped_at, postfix_at, arguments_at, named_at, old_symbol_at, transform_at, rule_at, primary_at, parenthesis_at, prefixed_at, unary_at, binary_here, assign_here, chain_at, choice_at, assignment_at, tail_at, climb_at, level_at, deeper, expr_at}
-use Rattle.kt_grammar.specs.Laws.{Stands, FaultStands, some_expr, ExprFaultStands}
+use Rattle.kt_grammar.specs.Laws.{Stands, FaultStands, some_expr, ExprFaultStands, ExprGoesOn}
 use Rattle.kt_grammar.specs.StandsLaws.{chosen, both_true, same_sign_is, token_stands, stands_joined, stands_as, begins_sign_stands, behind_stands, name_at_stands, type_at_stands}
 use Rattle.kt_grammar.specs.FaultLaws.{no_fault, bind_err, unexpected_stands, too_deep_stands, fault_as, fault_before, fault_behind, sign_mark, behind_fault, blank_name, name_mark, some_name, name_at_fault, base_mark, some_type, is_blank_type, type_at_fault, between_at_fault, listed_at_fault}
 use Rattle.kt_grammar.proofs.Operators.{picked, prefix_of-is, step_of-is, sign_is_stands, binary_here-is, assign_here-is}
@@ -936,3 +936,7 @@ pub expr_fault_stands : ExprFaultStands
 unfolding expr_at
 expr_fault_stands g n d symbols fault e =
     level_at_fault g (d + n) d (deeper g n) (omega arith) (deeper-is g (d + n) n d refl) (deeper_fault g (d + n) n d refl) 0 symbols fault (omega arith) e
+
+-- a symbol that an expression may begin with begins one
+pub expr_goes_on : ExprGoesOn
+expr_goes_on g d s rest e = let b = begins_expr-is g d s rest e in (b.0, lower_expr g 8 0 d (omega arith) (record { symbol = s; depth = d } ∷ b.0) b.1)

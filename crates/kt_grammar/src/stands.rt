@@ -1,4 +1,4 @@
-ghost use Rattle.kt_grammar.specs.Laws.{ExprStands, ExprFaultStands};
+ghost use Rattle.kt_grammar.specs.Laws.{ExprStands, ExprFaultStands, ExprGoesOn};
 
 /// An expression that is read stands there: the symbols are those that spell it, none too deep, and the rest.
 pub fn expr_stands_law()
@@ -9,4 +9,9 @@ pub fn expr_stands_law()
 /// goes on with the symbol there, which is.
 pub fn expr_fault_law()
     ensures { ExprFaultStands }
+{}
+
+/// A symbol that an expression may begin with begins one, at any depth.
+pub fn expr_goes_on_law()
+    ensures { ExprGoesOn }
 {}

@@ -13,7 +13,7 @@ use Rattle.kt_grammar.specs.Marks.{Mark, Language, nothing, sign, keyword, name,
 use Rattle.kt_grammar.specs.Spelling.{bare_base, spells_base}
 use Rattle.kt_grammar.specs.Cursor.{◌>>=◌, Outcome, begins_sign, behind, name_at, listed_at, until_at}
 use Rattle.kt_grammar.specs.Reading.{bare_base_at}
-use Rattle.kt_grammar.specs.Laws.{Stands, ExprStands, FaultStands, ExprFaultStands}
+use Rattle.kt_grammar.specs.Laws.{Stands, ExprStands, FaultStands, ExprFaultStands, ExprGoesOn}
 use Rattle.kt_grammar.specs.StandsLaws.{chosen, nothing_stands, stands_joined, stands_as, optional_none, keyword_stands, begins_sign_stands, behind_stands, name_at_stands, bare_base_at_stands}
 use Rattle.kt_grammar.specs.FaultLaws.{no_fault, bind_err, unexpected_stands, fault_as, fault_before, fault_behind, behind_fault, some_name, name_at_fault, some_base, bare_base_at_fault}
 use Rattle.kt_syntax.specs.declared.tree.Stars.{Stars}
@@ -23,7 +23,7 @@ use Rattle.kt_syntax.specs.declared.tree.Parameter.{Parameter}
 use Rattle.kt_syntax.specs.Tree.{Definition, External, StructMentioned, StructDefined, GlobalsDeclared, FunctionDeclared}
 use Rattle.kt_syntax.specs.Spelling.{separated, each, maybe, stars, pointer, global, parameter, fields, entries, leading, result, parameters, noted, body, external}
 use Rattle.kt_syntax.specs.Reading.{stars_at, pointer_at, global_behind, global_at, parameter_at, fields_at, block_behind, blocks, count_leading, parameters_behind, definition_behind, body_at, function_behind, globals_behind, bare_stars, named_behind, declared_behind, void_behind, typed_at, struct_behind, struct_at, external_at, is_end, file_at}
-use Rattle.kt_syntax.specs.StandLaws.{FileFaultStands, ExprGoesOn}
+use Rattle.kt_syntax.specs.StandLaws.{FileFaultStands}
 use Rattle.kt_syntax.specs.ListStands.{ReadStands, picked, until_at_stands}
 use Rattle.kt_syntax.proofs.DeclaratorStands.{stars_at_stands, pointer_at_stands, global_behind_stands, global_at_stands, parameter_at_stands, fields_at_stands}
 use Rattle.kt_syntax.proofs.ExternalStands.{bare_stars_stand, low, no_leading, count_leading_stands, more_globals, parameters_behind_stands, external_at_stands}

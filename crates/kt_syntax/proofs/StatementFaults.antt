@@ -17,13 +17,12 @@ use Rattle.kt_grammar.specs.Marks.{Mark, nothing, token, sign, keyword, ◌·◌
 use Rattle.kt_grammar.specs.Spelling.{between, bare_base, spells_base, spells}
 use Rattle.kt_grammar.specs.Cursor.{◌>>=◌, Outcome, begins_sign, behind, until_at}
 use Rattle.kt_grammar.specs.Reading.{begins_base, begins_expr, expr_at}
-use Rattle.kt_grammar.specs.Laws.{Stands, ExprStands, FaultStands, some_expr, ExprFaultStands}
+use Rattle.kt_grammar.specs.Laws.{Stands, ExprStands, FaultStands, some_expr, ExprFaultStands, ExprGoesOn}
 use Rattle.kt_grammar.specs.StandsLaws.{chosen, same_sign_is, token_stands, stands_joined, stands_as, sign_stands, keyword_stands, behind_stands}
 use Rattle.kt_grammar.specs.FaultLaws.{no_fault, bind_err, unexpected_stands, fault_as, fault_before, fault_behind, behind_fault, blank_name, name_mark, some_base}
 use Rattle.kt_syntax.specs.Tree.{Declaration, Start, NoStart, Declares, Evaluates, Statement, Declared, Compound, Empty, Evaluated, Returned, Broken, Continued, Conditional, Alternative, Looped, Repeated, Counted, Statements, Nothing, More, statements_of}
 use Rattle.kt_syntax.specs.Spelling.{each, maybe, local, declaration, ends_open, condition, for_start, statement, entries}
 use Rattle.kt_syntax.specs.Reading.{declaration_at, begins_so, begins_keyword, begins_statement, begins_entry, Blocks, refused, deep_expr_at, condition_at, part_at, block_behind, ended_at, behind_else, behind_while, else_at, if_behind, while_behind, do_behind, start_at, for_behind, evaluated_at, worded_at, signed_at, statement_at, entry_at, entries_at, blocks}
-use Rattle.kt_syntax.specs.StandLaws.{ExprGoesOn}
 use Rattle.kt_syntax.specs.ListStands.{ReadStands, not_true, picked}
 use Rattle.kt_syntax.proofs.DeclaratorStands.{declaration_at_stands}
 use Rattle.kt_syntax.proofs.StatementStands.{StatementStands, AreSound, entries_of, before_else, expr_reads, deep_expr_reads, behind_while_stands, behind_else_stands, within, condition_at_stands, ended_at_stands, start_at_stands, part_at_stands, entry_at_stands, blocks_sound}

@@ -1,11 +1,9 @@
 -- What is read of a file is what is spelled, and what is not read breaks off where it is told: the laws of reading C files.
-use Rattle.std.specs.Prelude.{◌≡◌, ℕ, true, List, [], ◌∷◌, Ok, Err}
+use Rattle.std.specs.Prelude.{◌≡◌, ℕ, List, [], Ok, Err}
 use Rattle.kt_grammar.specs.declared.fault.Fault.{Fault}
-use Rattle.kt_grammar.specs.declared.operator.Dialect.{Dialect}
 use Rattle.kt_grammar.specs.declared.symbol.Symbol.{Symbol}
 use Rattle.kt_grammar.specs.Marks.{Mark}
-use Rattle.kt_grammar.specs.Reading.{begins_expr}
-use Rattle.kt_grammar.specs.Laws.{FaultStands, some_expr}
+use Rattle.kt_grammar.specs.Laws.{FaultStands}
 use Rattle.kt_syntax.specs.Tree.{External}
 use Rattle.kt_syntax.specs.Spelling.{externals}
 use Rattle.kt_syntax.specs.Reading.{file_at}
@@ -23,9 +21,3 @@ some_file marks = (xs : List External) × externals xs marks
 -- is depth, one goes on there with the symbol there, which is too deep in it.
 abbrev pub FileFaultStands : Type 0
 FileFaultStands = (n : ℕ) (symbols : List Symbol) (fault : Fault) → file_at n symbols ≡ Err fault → FaultStands n some_file symbols fault
-
--- a symbol that an expression may begin with begins one
-abbrev pub ExprGoesOn : Type 0
-ExprGoesOn =
-    (g : Dialect) (d : ℕ) (s : Symbol) (rest : List Symbol) → begins_expr g (s ∷ rest) ≡ true
-    → (others : List Mark) × some_expr g 0 d (record { symbol = s; depth = d } ∷ others)

@@ -4,7 +4,7 @@
 mod stands;
 mod tree;
 
-pub use stands::file_stands_law;
+pub use stands::{file_fault_law, file_stands_law};
 pub use tree::{
     Body, Constant, Declarator, Extent, Fields, File, ForStart, Function, GlobalDeclarator, Item,
     LocalDeclarator, Locals, Parameter, Pointer, Stars, Stmt,
