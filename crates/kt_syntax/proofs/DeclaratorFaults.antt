@@ -1,6 +1,5 @@
 -- Declarators that are not read, of fields, globals, parameters and locals, break off where the fault tells.
-use Rattle.std.proofs.Common.{◌≡◌, ℕ, zero, suc, ◌+◌, ◌≤◌, inl, inr, Bool, true, false, List, [], ◌∷◌, length, drop, Option, Some, None, Result, Ok, Err, refl, sym, ap, ◌∙◌, subst}
-use Rattle.std.specs.Prelude.{if◌then◌else◌}
+use Rattle.std.proofs.Common.{◌≡◌, ℕ, ◌≤◌, inl, inr, List, [], ◌∷◌, length, Option, Some, None, Result, Ok, Err, refl, sym, subst}
 use Rattle.kt_lex.specs.declared.number.Number.{Number}
 use Rattle.kt_grammar.specs.declared.fault.Fault.{Fault}
 use Rattle.kt_grammar.specs.declared.fault.Fault.TheVariants.{Syntax}
@@ -15,24 +14,23 @@ use Rattle.kt_grammar.specs.declared.tree.Base.TheVariants as base
 use Rattle.kt_grammar.specs.declared.tree.Base.{Base}
 use Rattle.kt_grammar.specs.Tree.{Term}
 use Rattle.kt_grammar.specs.Signs.{same_sign}
-use Rattle.kt_grammar.specs.Marks.{Mark, Language, nothing, sign, keyword, name, ◌·◌}
-use Rattle.kt_grammar.specs.Spelling.{between, spells_base, spells}
+use Rattle.kt_grammar.specs.Marks.{Mark, Language, sign, ◌·◌}
+use Rattle.kt_grammar.specs.Spelling.{between, spells}
 use Rattle.kt_grammar.specs.Cursor.{◌>>=◌, Outcome, behind, name_at, listed_at}
 use Rattle.kt_grammar.specs.Reading.{base_at, expr_at}
 use Rattle.kt_grammar.specs.Laws.{Stands, FaultStands}
 use Rattle.kt_grammar.specs.StandsLaws.{by_value, bind_ok, chosen, same_sign_is, stands_as, sign_stands, keyword_stands, behind_stands, name_at_stands, base_at_stands}
 use Rattle.kt_grammar.specs.FaultLaws.{no_fault, unexpected_stands, fault_as, fault_behind, behind_fault, blank_name, name_mark, some_name, name_at_fault, base_mark, some_base, base_at_fault}
 use Rattle.kt_syntax.specs.declared.tree.Stars.{Stars}
-use Rattle.kt_syntax.specs.declared.tree.Extent.{Extent}
 use Rattle.kt_syntax.specs.declared.tree.Extent.TheVariants as extent
 use Rattle.kt_syntax.specs.declared.tree.Pointer.{Pointer}
 use Rattle.kt_syntax.specs.declared.tree.Declarator.{Declarator}
 use Rattle.kt_syntax.specs.declared.tree.Constant.{Constant}
 use Rattle.kt_syntax.specs.declared.tree.Constant.TheVariants as constant
-use Rattle.kt_syntax.specs.Spelling.{separated, maybe, number, stars, extent_name, extent_spelling, pointer, count, declarator, constant_spelling, global, parameter, fields, local, declaration}
+use Rattle.kt_syntax.specs.Spelling.{maybe, number, stars, extent_name, extent_spelling, pointer, count, declarator, constant_spelling, global, parameter, fields, local, declaration}
 use Rattle.kt_syntax.specs.Reading.{stars_at, extent_name_at, extent_behind, extent_at, pointer_behind, pointer_at, count_behind, count_at, declarator_behind, declarator_at, negative_at, constant_at, initial_at, global_behind, global_at, parameter_at, fields_at, value_at, local_at, declaration_at}
 use Rattle.kt_syntax.specs.ListStands.{ReadStands, separated_at_stands}
-use Rattle.kt_syntax.proofs.DeclaratorStands.{stars_at_stands, extent_name_at_stands, pointer_at_stands, number_stands, count_at_stands, declarator_at_stands, global_at_stands, parameter_at_stands, local_at_stands}
+use Rattle.kt_syntax.proofs.DeclaratorStands.{stars_at_stands, extent_name_at_stands, pointer_at_stands, number_stands, count_at_stands, declarator_at_stands, local_at_stands}
 use Rattle.kt_syntax.proofs.FaultSteps.{any, Blank, blank_joined, blank_as, sign_blank, name_blank, number_blank, maybe_blank, rejoined, grouped, ReadFaults, any_stands, last_fault, parts_fault, led_fault, some_separated, separated_at_fault}
 
 -- a type that can stand where one is missing
@@ -112,8 +110,8 @@ module _ (limit d : ℕ) (h : d ≤ limit) where
       parts_fault (behind signs.OpenParenthesis symbols) _ fault (λ x. x) e (behind_fault limit d signs.OpenParenthesis symbols fault) (λ x r. behind_stands limit d signs.OpenParenthesis symbols x h r)
       (blank_joined (name_mark d, (extent.Name blank_name, refl)) (sign_blank d signs.CloseParenthesis))
       (λ inner r w. parts_fault (extent_name_at inner) _ fault (λ x. x.1) w (extent_name_at_fault inner fault) (λ x r. any_stands (extent_name d) x.0 (extent_name_at_stands limit d h inner x r))
-        (sign_blank d signs.CloseParenthesis)
-        (λ x r w. behind_fault limit d signs.CloseParenthesis x.1 fault (last_fault (behind signs.CloseParenthesis x.1) _ fault w)))
+      (sign_blank d signs.CloseParenthesis)
+      (λ x r w. behind_fault limit d signs.CloseParenthesis x.1 fault (last_fault (behind signs.CloseParenthesis x.1) _ fault w)))
 
   extent_at_fault : ReadFaults limit (any (maybe (extent_spelling d))) extent_at
   unfolding extent_at
@@ -139,7 +137,7 @@ module _ (limit d : ℕ) (h : d ≤ limit) where
   named_fault f symbols fault e blank behind_is =
       parts_fault (pointer_at symbols) _ fault (λ x. x.1) e (pointer_at_fault symbols fault) (λ x r. any_stands (maybe (pointer d)) x.0 (pointer_at_stands limit d h symbols x r)) (blank_joined (name_blank d) blank)
       (λ p r w. parts_fault (name_at p.1) _ fault (λ x. x.1) w (name_at_fault limit d p.1 fault) (λ x r. stands_as (some_name d) (λ m s. (x.0, s)) (name_at_stands limit d p.1 x h r)) blank
-        (λ n r w. behind_is p.0 n.0 n.1 w))
+      (λ n r w. behind_is p.0 n.0 n.1 w))
 
   -- ---- declarators
 
@@ -177,7 +175,7 @@ module _ (limit d : ℕ) (h : d ≤ limit) where
   constant_at_fault (symbol.Sign at s ∷ rest) fault e = elim (chosen (same_sign s signs.Minus) _ _ (Err fault) e) [
     | inl c ↦ subst (λ (s : Sign). FaultStands limit (any (constant_spelling d)) (symbol.Sign at s ∷ rest) fault) (sym (same_sign_is s signs.Minus c.0))
         (fault_as (any (constant_spelling d)) (λ m j. (constant.Negative j.second.0, rejoined j j.first j.second.1))
-          (fault_behind (sign_stands limit d at signs.Minus rest h) (negative_at_fault rest fault c.1)))
+        (fault_behind (sign_stands limit d at signs.Minus rest h) (negative_at_fault rest fault c.1)))
     | inr c ↦ no_constant (symbol.Sign at s ∷ rest) fault c.1
   ]
   constant_at_fault (symbol.Character at b ∷ rest) fault e = no_fault _ fault e
@@ -217,7 +215,7 @@ module _ (limit d : ℕ) (h : d ≤ limit) where
   parameter_at_fault symbols fault e = fault_as (any (parameter d)) (parameter_of d)
       (parts_fault (base_at symbols) _ fault (λ x. x.1) e (λ w. base_at_fault limit d symbols fault h w) (some_base_stands symbols) (blank_joined (maybe_blank (pointer d)) (name_blank d))
       (λ b r w. parts_fault (pointer_at b.1) _ fault (λ x. x.1) w (pointer_at_fault b.1 fault) (λ x r. any_stands (maybe (pointer d)) x.0 (pointer_at_stands limit d h b.1 x r)) (name_blank d)
-        (λ p r w. name_at_fault limit d p.1 fault (last_fault (name_at p.1) _ fault w))))
+      (λ p r w. name_at_fault limit d p.1 fault (last_fault (name_at p.1) _ fault w))))
 
   -- one or more items with commas between them that are read stand there
   pub some_separated_stands : {A : Type 0} (item : A → Language) (read : List Symbol → Outcome A) → ReadStands limit item read
@@ -231,9 +229,9 @@ module _ (limit d : ℕ) (h : d ≤ limit) where
   fields_at_fault symbols fault e = fault_as (any (fields d)) (fields_of d)
       (parts_fault (base_at symbols) _ fault (λ x. x.1) e (λ w. base_at_fault limit d symbols fault h w) (some_base_stands symbols) (blank_joined (some_of_blank d (declarator d) (declarator_blank d)) (sign_blank d signs.Semicolon))
       (λ b r w. parts_fault (listed_at declarator_at (length b.1) [] b.1) _ fault (λ x. x.1) w
-        (λ w. separated_at_fault limit d (declarator d) declarator_at h (declarator_at_stands limit d h) declarator_at_fault (declarator_blank d) (length b.1) [] b.1 fault w)
-        (some_separated_stands (declarator d) declarator_at (declarator_at_stands limit d h) (length b.1) b.1) (sign_blank d signs.Semicolon)
-        (λ ds r w. behind_fault limit d signs.Semicolon ds.1 fault (last_fault (behind signs.Semicolon ds.1) _ fault w))))
+      (λ w. separated_at_fault limit d (declarator d) declarator_at h (declarator_at_stands limit d h) declarator_at_fault (declarator_blank d) (length b.1) [] b.1 fault w)
+      (some_separated_stands (declarator d) declarator_at (declarator_at_stands limit d h) (length b.1) b.1) (sign_blank d signs.Semicolon)
+      (λ ds r w. behind_fault limit d signs.Semicolon ds.1 fault (last_fault (behind signs.Semicolon ds.1) _ fault w))))
 
   -- ---- locals
 
@@ -253,4 +251,4 @@ module _ (limit d : ℕ) (h : d ≤ limit) where
     declaration_at_fault symbols fault e = fault_as (any (declaration d)) (declaration_of d)
         (parts_fault (base_at symbols) _ fault (λ x. x.1) e (λ w. base_at_fault limit d symbols fault h w) (some_base_stands symbols) (some_of_blank d (local d) (local_blank d))
         (λ b r w. separated_at_fault limit d (local d) (local_at n) h (local_at_stands limit d h n expr_stands) local_at_fault (local_blank d) (length b.1) [] b.1 fault
-          (last_fault (listed_at (local_at n) (length b.1) [] b.1) _ fault w)))
+        (last_fault (listed_at (local_at n) (length b.1) [] b.1) _ fault w)))

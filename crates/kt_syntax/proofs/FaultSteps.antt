@@ -1,19 +1,18 @@
 -- Steps of the proof that what is not read breaks off something: parts one after the other, what may stand, and lists.
-use Rattle.std.proofs.Common.{◌≡◌, ℕ, zero, suc, ◌≤◌, ◌<◌, ◌⊎◌, inl, inr, Bool, true, false, cond, List, [], ◌∷◌, ◌++◌, length, drop, Option, Some, None, Result, Ok, Err, refl, sym, ap, ◌∙◌, subst, append_assoc}
+use Rattle.std.proofs.Common.{◌≡◌, ℕ, zero, suc, ◌≤◌, ◌<◌, inl, inr, Bool, true, false, List, [], ◌∷◌, ◌++◌, length, drop, Option, Some, None, Result, Ok, Err, refl, sym, ap, ◌∙◌, subst, append_assoc}
 use Rattle.std.specs.Prelude.{if◌then◌else◌}
 use Rattle.kt_lex.specs.declared.number.Number.{Number}
 use Rattle.kt_grammar.specs.declared.fault.Fault.{Fault}
 use Rattle.kt_grammar.specs.declared.fault.Fault.TheVariants.{TooDeep}
 use Rattle.kt_grammar.specs.declared.keyword.Keyword.{Keyword}
 use Rattle.kt_grammar.specs.declared.sign.Sign.{Sign}
-use Rattle.kt_grammar.specs.declared.sign.Sign.TheVariants as signs
 use Rattle.kt_grammar.specs.declared.symbol.Symbol.{Symbol}
 use Rattle.kt_grammar.specs.declared.symbol.Symbol.TheVariants as symbol
-use Rattle.kt_grammar.specs.Marks.{Mark, Language, nothing, sign, keyword, Joined, ◌·◌}
-use Rattle.kt_grammar.specs.Cursor.{◌>>=◌, Outcome, unexpected, begins_sign, listed_at, until_at}
+use Rattle.kt_grammar.specs.Marks.{Mark, Language, sign, keyword, Joined, ◌·◌}
+use Rattle.kt_grammar.specs.Cursor.{◌>>=◌, Outcome, begins_sign, listed_at, until_at}
 use Rattle.kt_grammar.specs.Laws.{Stands, FaultStands}
-use Rattle.kt_grammar.specs.StandsLaws.{chosen, stands_as, begins_sign_stands, listed}
-use Rattle.kt_grammar.specs.FaultLaws.{no_fault, same_fault, bind_err, unexpected_stands, too_deep_stands, fault_as, fault_before, fault_behind, some_listed, listed_at_fault, sign_mark, name_mark, some_name, blank_name}
+use Rattle.kt_grammar.specs.StandsLaws.{chosen, stands_as, begins_sign_stands}
+use Rattle.kt_grammar.specs.FaultLaws.{no_fault, same_fault, bind_err, unexpected_stands, too_deep_stands, fault_as, fault_before, fault_behind, listed_at_fault, sign_mark, name_mark, some_name, blank_name}
 use Rattle.kt_syntax.specs.Spelling.{separated, each, maybe, number}
 use Rattle.kt_syntax.specs.Reading.{refused}
 use Rattle.kt_syntax.specs.ListStands.{ReadStands, not_true, separated_of}
@@ -101,8 +100,8 @@ pub led_fault : {A : Type 0} (limit d : ℕ) (s : Sign) (language : A → Langua
     → FaultStands limit (any (maybe (λ c. sign d s · language c))) symbols fault
 led_fault {A} limit d s language read h faults symbols fault e = elim (chosen (begins_sign s symbols) _ _ (Err fault) e) [
   | inl c ↦ fault_as (any (maybe (λ c. sign d s · language c)))
-    (λ m j. (Some j.second.0, record { front = j.front; back = j.back; parts = j.parts; first = j.first; second = j.second.1 }))
-    (fault_behind (begins_sign_stands limit d s symbols h c.0) (faults (drop 1 symbols) fault (last_fault (read (drop 1 symbols)) _ fault c.1)))
+      (λ m j. (Some j.second.0, record { front = j.front; back = j.back; parts = j.parts; first = j.first; second = j.second.1 }))
+      (fault_behind (begins_sign_stands limit d s symbols h c.0) (faults (drop 1 symbols) fault (last_fault (read (drop 1 symbols)) _ fault c.1)))
   | inr c ↦ no_fault _ fault c.1
 ]
 
@@ -150,7 +149,7 @@ until_at_fault limit stops item read stands faults zero done symbols fault e = e
 until_at_fault limit stops item read stands faults (suc count) done symbols fault e = elim (chosen (stops symbols) _ _ (Err fault) e) [
   | inl c ↦ no_fault _ fault c.1
   | inr c ↦ fault_as (any (each item))
-    (λ m j. (j.first.0 ∷ j.second.0, record { front = j.front; back = j.back; parts = j.parts; first = j.first.1; second = j.second.1 }))
-    (parts_fault (read symbols) _ fault (λ x. x.1) c.1 (faults symbols fault) (λ x r. any_stands item x.0 (stands symbols x r)) ([], ([], refl))
-    (λ x r w. until_at_fault limit stops item read stands faults count (done ++ x.0 ∷ []) x.1 fault w))
+      (λ m j. (j.first.0 ∷ j.second.0, record { front = j.front; back = j.back; parts = j.parts; first = j.first.1; second = j.second.1 }))
+      (parts_fault (read symbols) _ fault (λ x. x.1) c.1 (faults symbols fault) (λ x r. any_stands item x.0 (stands symbols x r)) ([], ([], refl))
+      (λ x r w. until_at_fault limit stops item read stands faults count (done ++ x.0 ∷ []) x.1 fault w))
 ]

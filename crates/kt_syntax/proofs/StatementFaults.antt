@@ -1,6 +1,5 @@
 -- Statements and blocks that are not read break off where the fault tells.
-use Rattle.std.proofs.Common.{◌≡◌, ℕ, zero, suc, ◌+◌, ◌≤◌, ◌<◌, ◌⊎◌, inl, inr, Bool, true, false, not, cond, ◌||◌, List, [], ◌∷◌, ◌++◌, length, drop, Option, Some, None, Result, Ok, Err, refl, sym, ap, ◌∙◌, subst, arith}
-use Rattle.std.specs.Prelude.{if◌then◌else◌}
+use Rattle.std.proofs.Common.{◌≡◌, ℕ, zero, suc, ◌+◌, ◌≤◌, ◌<◌, ◌⊎◌, inl, inr, Bool, true, false, not, ◌||◌, List, [], ◌∷◌, ◌++◌, length, Option, Some, None, Ok, Err, refl, sym, ap, subst, arith}
 use Rattle.kt_grammar.specs.declared.fault.Fault.{Fault}
 use Rattle.kt_grammar.specs.declared.keyword.Keyword.{Keyword}
 use Rattle.kt_grammar.specs.declared.keyword.Keyword.TheVariants as keywords
@@ -13,17 +12,17 @@ use Rattle.kt_grammar.specs.declared.tree.Base.{Base}
 use Rattle.kt_grammar.specs.declared.tree.Base.TheVariants as base
 use Rattle.kt_grammar.specs.Tree.{Term, Named}
 use Rattle.kt_grammar.specs.Signs.{same_sign}
-use Rattle.kt_grammar.specs.Marks.{Mark, nothing, token, sign, keyword, ◌·◌, when}
-use Rattle.kt_grammar.specs.Spelling.{between, bare_base, spells_base, spells}
-use Rattle.kt_grammar.specs.Cursor.{◌>>=◌, Outcome, begins_sign, behind, until_at}
+use Rattle.kt_grammar.specs.Marks.{Mark, token, sign, keyword, ◌·◌}
+use Rattle.kt_grammar.specs.Spelling.{between, bare_base, spells}
+use Rattle.kt_grammar.specs.Cursor.{◌>>=◌, begins_sign, behind, until_at}
 use Rattle.kt_grammar.specs.Reading.{begins_base, begins_expr, expr_at}
 use Rattle.kt_grammar.specs.Laws.{Stands, ExprStands, FaultStands, some_expr, ExprFaultStands, ExprGoesOn}
-use Rattle.kt_grammar.specs.StandsLaws.{chosen, same_sign_is, token_stands, stands_joined, stands_as, sign_stands, keyword_stands, behind_stands}
+use Rattle.kt_grammar.specs.StandsLaws.{chosen, same_sign_is, token_stands, stands_as, sign_stands, keyword_stands, behind_stands}
 use Rattle.kt_grammar.specs.FaultLaws.{no_fault, bind_err, unexpected_stands, fault_as, fault_before, fault_behind, behind_fault, blank_name, name_mark, some_base}
-use Rattle.kt_syntax.specs.Tree.{Declaration, Start, NoStart, Declares, Evaluates, Statement, Declared, Compound, Empty, Evaluated, Returned, Broken, Continued, Conditional, Alternative, Looped, Repeated, Counted, Statements, Nothing, More, statements_of}
-use Rattle.kt_syntax.specs.Spelling.{each, maybe, local, declaration, ends_open, condition, for_start, statement, entries}
-use Rattle.kt_syntax.specs.Reading.{declaration_at, begins_so, begins_keyword, begins_statement, begins_entry, Blocks, refused, deep_expr_at, condition_at, part_at, block_behind, ended_at, behind_else, behind_while, else_at, if_behind, while_behind, do_behind, start_at, for_behind, evaluated_at, worded_at, signed_at, statement_at, entry_at, entries_at, blocks}
-use Rattle.kt_syntax.specs.ListStands.{ReadStands, not_true, picked}
+use Rattle.kt_syntax.specs.Tree.{Declaration, Start, NoStart, Declares, Evaluates, Statement, Declared, Compound, Empty, Evaluated, Returned, Broken, Continued, Conditional, Alternative, Looped, Repeated, Counted, Nothing, More, statements_of}
+use Rattle.kt_syntax.specs.Spelling.{maybe, local, declaration, ends_open, condition, for_start, statement, entries}
+use Rattle.kt_syntax.specs.Reading.{declaration_at, begins_so, begins_keyword, begins_statement, begins_entry, Blocks, deep_expr_at, condition_at, part_at, block_behind, ended_at, behind_else, behind_while, else_at, if_behind, while_behind, do_behind, start_at, for_behind, evaluated_at, worded_at, signed_at, statement_at, entry_at, entries_at, blocks}
+use Rattle.kt_syntax.specs.ListStands.{not_true, picked}
 use Rattle.kt_syntax.proofs.DeclaratorStands.{declaration_at_stands}
 use Rattle.kt_syntax.proofs.StatementStands.{StatementStands, AreSound, entries_of, before_else, expr_reads, deep_expr_reads, behind_while_stands, behind_else_stands, within, condition_at_stands, ended_at_stands, start_at_stands, part_at_stands, entry_at_stands, blocks_sound}
 use Rattle.kt_syntax.proofs.FaultSteps.{any, Blank, blank_joined, blank_as, sign_blank, keyword_blank, name_blank, maybe_blank, rejoined, ungrouped, ReadFaults, any_stands, last_fault, parts_fault, GoesOn, refused_fault, some_separated, until_at_fault}
@@ -53,30 +52,38 @@ module _ (entry : Bool) (d : ℕ) where
 
   alternative_of : (c : Term) (s : Statement) → not (ends_open s) ≡ true → (marks : List Mark)
       → (keyword d keywords.If · condition d c · statement false (suc d) s · keyword d keywords.Else · any (statement false (suc d))) marks → any (statement entry d) marks
-  alternative_of c s closed m j =
-      (Alternative c s j.second.second.second.second.0, (closed, rejoined j j.first (rejoined j.second j.second.first (rejoined j.second.second j.second.second.first
-      (rejoined j.second.second.second j.second.second.second.first j.second.second.second.second.1)))))
+  alternative_of c s closed m j = (
+    Alternative c s j.second.second.second.second.0,
+    (
+      closed,
+      rejoined j j.first (rejoined j.second j.second.first (rejoined j.second.second j.second.second.first
+          (rejoined j.second.second.second j.second.second.second.first j.second.second.second.second.1))),
+    ),
+  )
 
   looped_of : (marks : List Mark) → (keyword d keywords.While · any (condition d) · any (statement false (suc d))) marks → any (statement entry d) marks
   looped_of m j = (Looped j.second.first.0 j.second.second.0, rejoined j j.first (rejoined j.second j.second.first.1 j.second.second.1))
 
   repeated_of : (marks : List Mark) → (keyword d keywords.Do · any (statement false (suc d)) · keyword d keywords.While · any (condition d) · sign d signs.Semicolon) marks → any (statement entry d) marks
-  repeated_of m j =
-      (Repeated j.second.first.0 j.second.second.second.first.0, rejoined j j.first (rejoined j.second j.second.first.1 (rejoined j.second.second j.second.second.first
-      (rejoined j.second.second.second j.second.second.second.first.1 j.second.second.second.second))))
+  repeated_of m j = (
+    Repeated j.second.first.0 j.second.second.second.first.0,
+    rejoined j j.first (rejoined j.second j.second.first.1 (rejoined j.second.second j.second.second.first
+        (rejoined j.second.second.second j.second.second.second.first.1 j.second.second.second.second))),
+  )
 
   counted_of : (marks : List Mark)
       → (keyword d keywords.For · sign d signs.OpenParenthesis · (any (for_start d) · sign d signs.Semicolon) · (any (maybe (spells C d)) · sign d signs.Semicolon) · (any (maybe (spells C d)) · sign d signs.CloseParenthesis)
-        · any (statement false (suc d))) marks
+      · any (statement false (suc d))) marks
       → any (statement entry d) marks
   counted_of m j =
       let start = j.second.second in
       let test = start.second in
-      let step = test.second in
-      (Counted start.first.first.0 test.first.first.0 step.first.first.0 step.second.0,
-      rejoined j j.first (rejoined j.second j.second.first (ungrouped (rejoined start (rejoined start.first start.first.first.1 start.first.second)
-      (ungrouped (rejoined test (rejoined test.first test.first.first.1 test.first.second)
-      (ungrouped (rejoined step (rejoined step.first step.first.first.1 step.first.second) step.second.1))))))))
+      let step = test.second in (
+        Counted start.first.first.0 test.first.first.0 step.first.first.0 step.second.0,
+        rejoined j j.first (rejoined j.second j.second.first (ungrouped (rejoined start (rejoined start.first start.first.first.1 start.first.second)
+            (ungrouped (rejoined test (rejoined test.first test.first.first.1 test.first.second)
+            (ungrouped (rejoined step (rejoined step.first step.first.first.1 step.first.second) step.second.1))))))),
+      )
 
   compound_of : (marks : List Mark) → (sign d signs.OpenBrace · (any (entries (suc d)) · sign d signs.CloseBrace)) marks → any (statement entry d) marks
   compound_of m j = (Compound j.second.first.0, rejoined j j.first (rejoined j.second j.second.first.1 j.second.second))
@@ -175,12 +182,12 @@ module _ (entry : Bool) (d : ℕ) where
           | inr x ↦ keyword_begins s rest x
           | inl x ↦ elim (either_true brace semicolon x) [
             | inl x ↦
-            let is = sign_at_front signs.OpenBrace s rest x in
-            subst (GoesOn d (any (statement entry d))) (sym is.1)
-            (goes_on_as (compound_of entry d) (goes_on_with (sign_goes d is.0 signs.OpenBrace) (blank_joined (entries_blank (suc d)) (sign_blank d signs.CloseBrace))))
+                let is = sign_at_front signs.OpenBrace s rest x in
+                subst (GoesOn d (any (statement entry d))) (sym is.1)
+                (goes_on_as (compound_of entry d) (goes_on_with (sign_goes d is.0 signs.OpenBrace) (blank_joined (entries_blank (suc d)) (sign_blank d signs.CloseBrace))))
             | inr x ↦
-            let is = sign_at_front signs.Semicolon s rest x in
-            subst (GoesOn d (any (statement entry d))) (sym is.1) (goes_on_as (λ m y. (Empty, y)) (sign_goes d is.0 signs.Semicolon))
+                let is = sign_at_front signs.Semicolon s rest x in
+                subst (GoesOn d (any (statement entry d))) (sym is.1) (goes_on_as (λ m y. (Empty, y)) (sign_goes d is.0 signs.Semicolon))
           ]
         ]
       ]
@@ -269,9 +276,9 @@ module _ (law : ExprStands) (faults : ExprFaultStands) (goes_on : ExprGoesOn) wh
         let deep_here : (y : List Symbol) (x : Term × List Symbol) → deep_expr_at n y ≡ Ok x → Stands limit (any (spells C (suc d))) y x.1 = λ y x r. any_stands (spells C (suc d)) x.0 (deep_expr_reads law limit n d whole y x r) in
         fault_as (any (condition d)) (condition_of d)
         (parts_fault (behind signs.OpenParenthesis symbols) _ fault (λ x. x) e (behind_fault limit d signs.OpenParenthesis symbols fault) (λ x r. behind_stands limit d signs.OpenParenthesis symbols x low r)
-          (blank_joined (expr_blank (suc d)) (sign_blank d signs.CloseParenthesis))
-          (λ y r w. parts_fault (deep_expr_at n y) _ fault (λ x. x.1) w (deep_expr_breaks limit n d whole y fault) (deep_here y) (sign_blank d signs.CloseParenthesis)
-            (λ x r w. behind_fault limit d signs.CloseParenthesis x.1 fault (last_fault (behind signs.CloseParenthesis x.1) _ fault w))))
+        (blank_joined (expr_blank (suc d)) (sign_blank d signs.CloseParenthesis))
+        (λ y r w. parts_fault (deep_expr_at n y) _ fault (λ x. x.1) w (deep_expr_breaks limit n d whole y fault) (deep_here y) (sign_blank d signs.CloseParenthesis)
+        (λ x r w. behind_fault limit d signs.CloseParenthesis x.1 fault (last_fault (behind signs.CloseParenthesis x.1) _ fault w))))
 
     condition_here : (symbols : List Symbol) (x : Term × List Symbol) → condition_at n symbols ≡ Ok x → Stands limit (any (condition d)) symbols x.1
     condition_here symbols x r = any_stands (condition d) x.0 (condition_at_stands law limit d n whole symbols x r)
@@ -283,7 +290,7 @@ module _ (law : ExprStands) (faults : ExprFaultStands) (goes_on : ExprGoesOn) wh
           | inl c ↦ no_fault _ fault c.1
           | inr c ↦ fault_as (any (maybe (spells C d)) · sign d s) (λ m j. rejoined j (Some j.first.0, j.first.1) j.second)
               (parts_fault (expr_at C n symbols) _ fault (λ x. x.1) c.1 (expr_breaks limit n d whole symbols fault) (expr_here symbols) (sign_blank d s)
-                (λ x r w. behind_fault limit d s x.1 fault (last_fault (behind s x.1) _ fault w)))
+              (λ x r w. behind_fault limit d s x.1 fault (last_fault (behind s x.1) _ fault w)))
         ]
 
     ended_here : (s : Sign) (symbols : List Symbol) (x : Option Term × List Symbol) → ended_at n s symbols ≡ Ok x → Stands limit (any (maybe (spells C d)) · sign d s) symbols x.1
@@ -306,7 +313,7 @@ module _ (law : ExprStands) (faults : ExprFaultStands) (goes_on : ExprGoesOn) wh
             | inl c ↦ fault_as (any (for_start d) · sign d signs.Semicolon) (λ m j. rejoined j (Declares j.first.0, j.first.1) j.second) (declared_fault _ symbols fault c.1)
             | inr c ↦ fault_as (any (for_start d) · sign d signs.Semicolon) (λ m j. rejoined j (Evaluates j.first.0, j.first.1) j.second)
                 (parts_fault (expr_at C n symbols) _ fault (λ x. x.1) c.1 (expr_breaks limit n d whole symbols fault) (expr_here symbols) (sign_blank d signs.Semicolon)
-                  (λ x r w. behind_fault limit d signs.Semicolon x.1 fault (last_fault (behind signs.Semicolon x.1) _ fault w)))
+                (λ x r w. behind_fault limit d signs.Semicolon x.1 fault (last_fault (behind signs.Semicolon x.1) _ fault w)))
           ]
         ]
 
@@ -329,7 +336,7 @@ module _ (law : ExprStands) (faults : ExprFaultStands) (goes_on : ExprGoesOn) wh
         evaluated_fault symbols fault e =
             fault_as (any (statement entry d)) (evaluated_of entry d)
             (parts_fault (expr_at C n symbols) _ fault (λ x. x.1) e (expr_breaks limit n d whole symbols fault) (expr_here symbols) (sign_blank d signs.Semicolon)
-              (λ x r w. behind_fault limit d signs.Semicolon x.1 fault (last_fault (behind signs.Semicolon x.1) _ fault w)))
+            (λ x r w. behind_fault limit d signs.Semicolon x.1 fault (last_fault (behind signs.Semicolon x.1) _ fault w)))
 
         else_fault : (at : ℕ) (c : Term) (s : Statement) (symbols middle front : List Symbol) (fault : Fault) → Stands limit (condition d c) symbols middle → StatementStands limit false (suc d) middle (s, front)
             → else_at b c s front ≡ Err fault → FaultStands limit (any (statement entry d)) (symbol.Keyword at keywords.If ∷ symbols) fault
@@ -363,7 +370,7 @@ module _ (law : ExprStands) (faults : ExprFaultStands) (goes_on : ExprGoesOn) wh
             fault_as (any (statement entry d)) (looped_of entry d)
             (fault_behind (keyword_stands limit d at keywords.While symbols low)
             (parts_fault (condition_at n symbols) _ fault (λ x. x.1) e (condition_fault symbols fault) (condition_here symbols) (statement_blank false (suc d))
-              (λ c r w. part_fault c.1 fault (last_fault (part_at b c.1) _ fault w))))
+            (λ c r w. part_fault c.1 fault (last_fault (part_at b c.1) _ fault w))))
 
         do_fault : (at : ℕ) (symbols : List Symbol) (fault : Fault) → do_behind n b symbols ≡ Err fault → FaultStands limit (any (statement entry d)) (symbol.Keyword at keywords.Do ∷ symbols) fault
         unfolding do_behind
@@ -372,9 +379,9 @@ module _ (law : ExprStands) (faults : ExprFaultStands) (goes_on : ExprGoesOn) wh
             fault_as (any (statement entry d)) (repeated_of entry d)
             (fault_behind (keyword_stands limit d at keywords.Do symbols low)
             (parts_fault (part_at b symbols) _ fault (λ x. x.1) e (part_fault symbols fault) (part_here symbols) (blank_joined (keyword_blank d keywords.While) closing)
-              (λ s r w. parts_fault (behind_while s.1) _ fault (λ x. x) w (behind_while_fault limit d s.1 fault) (λ x r. behind_while_stands limit d s.1 x low r) closing
-                (λ y r w. parts_fault (condition_at n y) _ fault (λ x. x.1) w (condition_fault y fault) (condition_here y) (sign_blank d signs.Semicolon)
-                  (λ c r w. behind_fault limit d signs.Semicolon c.1 fault (last_fault (behind signs.Semicolon c.1) _ fault w))))))
+            (λ s r w. parts_fault (behind_while s.1) _ fault (λ x. x) w (behind_while_fault limit d s.1 fault) (λ x r. behind_while_stands limit d s.1 x low r) closing
+            (λ y r w. parts_fault (condition_at n y) _ fault (λ x. x.1) w (condition_fault y fault) (condition_here y) (sign_blank d signs.Semicolon)
+            (λ c r w. behind_fault limit d signs.Semicolon c.1 fault (last_fault (behind signs.Semicolon c.1) _ fault w))))))
 
         for_fault : (at : ℕ) (symbols : List Symbol) (fault : Fault) → for_behind n b symbols ≡ Err fault → FaultStands limit (any (statement entry d)) (symbol.Keyword at keywords.For ∷ symbols) fault
         unfolding for_behind
@@ -386,10 +393,10 @@ module _ (law : ExprStands) (faults : ExprFaultStands) (goes_on : ExprGoesOn) wh
             fault_as (any (statement entry d)) (counted_of entry d)
             (fault_behind (keyword_stands limit d at keywords.For symbols low)
             (parts_fault (behind signs.OpenParenthesis symbols) _ fault (λ x. x) e (behind_fault limit d signs.OpenParenthesis symbols fault) (λ x r. behind_stands limit d signs.OpenParenthesis symbols x low r) (blank_joined starting testing)
-              (λ y r w. parts_fault (start_at n y) _ fault (λ x. x.1) w (start_fault y fault) (start_here y) testing
-                (λ i r w. parts_fault (ended_at n signs.Semicolon i.1) _ fault (λ x. x.1) w (ended_fault signs.Semicolon i.1 fault) (ended_here signs.Semicolon i.1) stepping
-                  (λ t r w. parts_fault (ended_at n signs.CloseParenthesis t.1) _ fault (λ x. x.1) w (ended_fault signs.CloseParenthesis t.1 fault) (ended_here signs.CloseParenthesis t.1) last
-                    (λ u r w. part_fault u.1 fault (last_fault (part_at b u.1) _ fault w)))))))
+            (λ y r w. parts_fault (start_at n y) _ fault (λ x. x.1) w (start_fault y fault) (start_here y) testing
+            (λ i r w. parts_fault (ended_at n signs.Semicolon i.1) _ fault (λ x. x.1) w (ended_fault signs.Semicolon i.1 fault) (ended_here signs.Semicolon i.1) stepping
+            (λ t r w. parts_fault (ended_at n signs.CloseParenthesis t.1) _ fault (λ x. x.1) w (ended_fault signs.CloseParenthesis t.1 fault) (ended_here signs.CloseParenthesis t.1) last
+            (λ u r w. part_fault u.1 fault (last_fault (part_at b u.1) _ fault w)))))))
 
         worded_fault : (at : ℕ) (k : Keyword) (rest : List Symbol) (fault : Fault) → worded_at n b at k (symbol.Keyword at k ∷ rest) rest ≡ Err fault → FaultStands limit (any (statement entry d)) (symbol.Keyword at k ∷ rest) fault
         unfolding worded_at
@@ -414,7 +421,7 @@ module _ (law : ExprStands) (faults : ExprFaultStands) (goes_on : ExprGoesOn) wh
             elim (chosen (same_sign s signs.OpenBrace) _ _ (Err fault) e) [
               | inl c ↦ subst (λ (t : Sign). FaultStands limit (any (statement entry d)) (symbol.Sign at t ∷ rest) fault) (sym (same_sign_is s signs.OpenBrace c.0))
                   (fault_as (any (statement entry d)) (compound_of entry d)
-                    (fault_behind (sign_stands limit d at signs.OpenBrace rest low) (block_breaks limit d b breaks rest fault (last_fault (block_behind b rest) _ fault c.1))))
+                  (fault_behind (sign_stands limit d at signs.OpenBrace rest low) (block_breaks limit d b breaks rest fault (last_fault (block_behind b rest) _ fault c.1))))
               | inr c ↦ elim (chosen (same_sign s signs.Semicolon) _ _ (Err fault) c.1) [
                 | inl c ↦ no_fault _ fault c.1
                 | inr c ↦ evaluated_fault (symbol.Sign at s ∷ rest) fault c.1
@@ -440,7 +447,7 @@ module _ (law : ExprStands) (faults : ExprFaultStands) (goes_on : ExprGoesOn) wh
       unfolding entries_at
       entries_fault k symbols fault e =
           let all = until_at_fault limit (begins_sign signs.CloseBrace) (statement true d) (entry_at n b) (entry_at_stands law limit d n whole b sound) entry_fault (length symbols) [] symbols fault
-            (last_fault (until_at (begins_sign signs.CloseBrace) (entry_at n b) (length symbols) [] symbols) _ fault e) in
+          (last_fault (until_at (begins_sign signs.CloseBrace) (entry_at n b) (length symbols) [] symbols) _ fault e) in
           fault_before (sign k signs.CloseBrace) (sign_blank k signs.CloseBrace).0 (sign_blank k signs.CloseBrace).1 (fault_as (any (entries d)) (λ m l. (statements_of l.0, entries_of d l.0 m l.1)) all)
 
   -- what reads one deeper breaks off where the fault tells

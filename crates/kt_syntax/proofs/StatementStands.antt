@@ -217,6 +217,15 @@ module _ (law : ExprStands) (limit d n : ℕ) (whole : d + n ≡ limit) where
           (stands_joined (behind_while_stands limit d s.value.1 w.value within w.gave)
           (stands_joined (condition_at_stands w.value c.value c.gave) (behind_stands limit d signs.Semicolon c.value.1 t.value within t.gave))))) t.then_gave
 
+      -- the parts of a loop `for` make one
+      counted_stands : (at : ℕ) (start : Start) (test step : Option Term) (s : Statement) (s0 s1 s2 s3 s4 rest : List Symbol) → Stands limit (sign d signs.OpenParenthesis) s0 s1 → Stands limit (for_start d start · sign d signs.Semicolon) s1 s2
+          → Stands limit (maybe (spells C d) test · sign d signs.Semicolon) s2 s3 → Stands limit (maybe (spells C d) step · sign d signs.CloseParenthesis) s3 s4 → StatementStands limit false (suc d) s4 (s, rest)
+          → StatementStands limit entry d (symbol.Keyword at keywords.For ∷ s0) (Counted start test step s, rest)
+      counted_stands at start test step s s0 s1 s2 s3 s4 rest opened first second third last = record {
+        stands = stands_joined (keyword_stands limit d at keywords.For s0 within) (stands_joined opened (stands_then first (stands_then second (stands_then third last.stands))));
+        no_else = last.no_else;
+      }
+
       for_behind_stands : (at : ℕ) (symbols : List Symbol) (x : Statement × List Symbol) → for_behind n b symbols ≡ Ok x → StatementStands limit entry d (symbol.Keyword at keywords.For ∷ symbols) x
       unfolding for_behind
       for_behind_stands at symbols x e =
@@ -225,16 +234,10 @@ module _ (law : ExprStands) (limit d n : ℕ) (whole : d + n ≡ limit) where
           let t = bind_ok (ended_at n signs.Semicolon i.value.1) _ x i.then_gave in
           let u = bind_ok (ended_at n signs.CloseParenthesis t.value.1) _ x t.then_gave in
           let s = bind_ok (part_at b u.value.1) _ x u.then_gave in
-          let last = part_at_stands u.value.1 s.value s.gave in
           by_value (StatementStands limit entry d (symbol.Keyword at keywords.For ∷ symbols)) (Counted i.value.0 t.value.0 u.value.0 s.value.0, s.value.1) x s.then_gave
-          (record {
-            stands = stands_joined (keyword_stands limit d at keywords.For symbols within)
-                (stands_joined (behind_stands limit d signs.OpenParenthesis symbols o.value within o.gave)
-                (stands_then (start_at_stands o.value i.value i.gave)
-                (stands_then (ended_at_stands signs.Semicolon i.value.1 t.value t.gave)
-                (stands_then (ended_at_stands signs.CloseParenthesis t.value.1 u.value u.gave) last.stands))));
-            no_else = last.no_else;
-          })
+          (counted_stands at i.value.0 t.value.0 u.value.0 s.value.0 symbols o.value i.value.1 t.value.1 u.value.1 s.value.1
+          (behind_stands limit d signs.OpenParenthesis symbols o.value within o.gave) (start_at_stands o.value i.value i.gave)
+          (ended_at_stands signs.Semicolon i.value.1 t.value t.gave) (ended_at_stands signs.CloseParenthesis t.value.1 u.value u.gave) (part_at_stands u.value.1 s.value s.gave))
 
       returned_stands : (at : ℕ) (symbols : List Symbol) (x : Statement × List Symbol) → (ended_at n signs.Semicolon symbols >>= λ e. Ok (Returned at e.0, e.1)) ≡ Ok x → StatementStands limit entry d (symbol.Keyword at keywords.Return ∷ symbols) x
       returned_stands at symbols x e =

@@ -1,6 +1,6 @@
-use kt_grammar::{expr_fault_law, expr_goes_on_law, expr_stands_law};
-
 ghost use Rattle.kt_syntax.specs.StandLaws.{FileStands, FileFaultStands};
+
+use kt_grammar::{expr_fault_law, expr_goes_on_law, expr_stands_law};
 
 /// A file that is read is one, to its end: its symbols are those that spell it, none too deep.
 pub fn file_stands_law()
