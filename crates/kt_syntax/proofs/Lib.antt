@@ -9,3 +9,10 @@ pub mod Structs
 pub mod Globals
 pub mod Functions
 pub mod Files
+pub mod DeclaratorStands
+pub mod StatementStands
+pub mod ExternalStands
+pub mod FaultSteps
+pub mod DeclaratorFaults
+pub mod StatementFaults
+pub mod ExternalFaults

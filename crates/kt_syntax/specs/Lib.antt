@@ -3,3 +3,5 @@ pub mod Spelling
 pub mod Reading
 pub mod File
 pub mod Laws
+pub mod StandLaws
+pub mod ListStands
