@@ -1,0 +1,376 @@
+-- Laws of reading texts with a common front alike, through what readers are built of.
+use Rattle.std.proofs.Common.{◌≡◌, ℕ, zero, suc, ◌≤◌, ◌<◌, inl, inr, ◌&&◌, Bool, true, false, List, [], ◌∷◌, ◌++◌, length, drop, Option, Some, None, Ok, Err, refl, sym, subst, arith, le_refl, le_trans, length-drop, length-append}
+use Rattle.std.specs.Prelude.{if◌then◌else◌}
+use Rattle.kt_grammar.specs.declared.fault.Fault.TheVariants.{Syntax, TooDeep, NoMemory}
+use Rattle.kt_grammar.specs.declared.keyword.Keyword.TheVariants as keywords
+use Rattle.kt_grammar.specs.declared.sign.Sign.{Sign}
+use Rattle.kt_grammar.specs.declared.sign.Sign.TheVariants as signs
+use Rattle.kt_grammar.specs.declared.symbol.Symbol.{Symbol}
+use Rattle.kt_grammar.specs.declared.symbol.Symbol.TheVariants as symbol
+use Rattle.kt_grammar.specs.declared.tree.Base.TheVariants as base
+use Rattle.kt_grammar.specs.Cursor.{◌>>=◌, Outcome, unexpected, begins_sign, behind, name_at, count_sign, listed_at, until_at}
+use Rattle.kt_grammar.specs.Reading.{begins_base, behind_const, bare_base_at, base_at, type_at, between_at}
+use Rattle.kt_grammar.specs.Local.{IsWithin, Answer, Value, Unexpected, Deep, told, Same, Alike, IsLocal}
+
+-- ---- steps
+
+within_more : {A : Type 0} (n m : ℕ) (o : Outcome A) → n ≤ m → IsWithin n o → IsWithin m o
+within_more n m (Ok x) h w = le_trans w h
+within_more n m (Err (Syntax left)) h w = le_trans w h
+within_more n m (Err (TooDeep left)) h w = le_trans w h
+within_more n m (Err NoMemory) h w = tt
+
+within_then : {A B : Type 0} (n : ℕ) (o : Outcome A) (next : A × List Symbol → Outcome B) → IsWithin n o → ((x : A × List Symbol) → IsWithin (length x.1) (next x)) → IsWithin n (o >>= next)
+within_then n (Ok x) next w h = within_more (length x.1) n (next x) w (h x)
+within_then n (Err fault) next w h = w
+
+-- what holds of the answers as they are told holds of the outcomes
+as_told : {A : Type 0} {behind other : List Symbol} {o p : Outcome A} (P : Outcome A → Outcome A → Type 0) (s : Same behind other o p) → P (told behind s.answer) (told other s.answer) → P o p
+as_told {behind = behind} {p = p} P s h = subst (λ o. P o p) (sym s.first) (subst (λ p. P (told behind s.answer) p) (sym s.second) h)
+
+-- one step and then another, where the second step may know which text it reads
+alike_steps : {A B : Type 0} (t : Symbol) (rest other : List Symbol) (o p : Outcome A) (f g : A × List Symbol → Outcome B) → Alike t rest other o p → ((x : A × List Symbol) → IsWithin (length x.1) (f x))
+    → ((x : A) (front : List Symbol) → o ≡ Ok (x, front ++ t ∷ rest) → Alike t rest other (f (x, front ++ t ∷ rest)) (g (x, front ++ t ∷ other))) → Alike t rest other (o >>= f) (p >>= g)
+alike_steps t rest other o p f g (inl w) within alike = inl (within_then (length rest) o f w within)
+alike_steps {A} {B} t rest other o p f g (inr s) within alike = as_told (λ o p. Alike t rest other (o >>= f) (p >>= g)) s (from s.answer s.first)
+  where
+    from : (answer : Answer A) → o ≡ told (t ∷ rest) answer → Alike t rest other (told (t ∷ rest) answer >>= f) (told (t ∷ other) answer >>= g)
+    from (Value x front) e = alike x front e
+    from (Unexpected front) e = inr (record { answer = Unexpected front; first = refl; second = refl })
+    from (Deep front) e = inr (record { answer = Deep front; first = refl; second = refl })
+
+-- one reader and then another
+pub then_local : {A B : Type 0} {read : List Symbol → Outcome A} (next : A × List Symbol → Outcome B) → IsLocal read → ((x : A) → IsLocal (λ symbols. next (x, symbols))) → IsLocal (λ symbols. read symbols >>= next)
+then_local {read = read} next a b = record {
+  within = λ symbols. within_then (length symbols) (read symbols) next (a.within symbols) (λ x. (b x.0).within x.1);
+  alike = λ t rest other front. alike_steps t rest other (read (front ++ t ∷ rest)) (read (front ++ t ∷ other)) next next (a.alike t rest other front) (λ x. (b x.0).within x.1) (λ x behind e. (b x).alike t rest other behind);
+}
+
+-- a value, and no symbol is read
+pub gives_local : {A : Type 0} (x : A) → IsLocal (λ symbols. Ok (x, symbols))
+gives_local x = record { within = λ symbols. le_refl (length symbols); alike = λ t rest other front. inr (record { answer = Value x front; first = refl; second = refl }) }
+
+pub unexpected_local : {A : Type 0} → IsLocal {A = A} unexpected
+unexpected_local = record { within = λ symbols. le_refl (length symbols); alike = λ t rest other front. inr (record { answer = Unexpected front; first = refl; second = refl }) }
+
+pub too_deep_local : {A : Type 0} → IsLocal {A = A} (λ symbols. Err (TooDeep (length symbols)))
+too_deep_local = record { within = λ symbols. le_refl (length symbols); alike = λ t rest other front. inr (record { answer = Deep front; first = refl; second = refl }) }
+
+-- ---- the first symbol
+
+-- reading is local from this symbol on; the reader is told those behind it
+pub record IsLocalFrom {A : Type 0} (s : Symbol) (read : List Symbol → Outcome A) : Type 0 where
+  within : (symbols : List Symbol) → IsWithin (suc (length symbols)) (read symbols)
+  alike : (t : Symbol) (rest other front : List Symbol) → Alike t rest other (read (front ++ t ∷ rest)) (read (front ++ t ∷ other))
+  first : (rest other : List Symbol) → Alike s rest other (read rest) (read other)
+
+-- the symbol is taken
+pub taken : {A : Type 0} {s : Symbol} {next : List Symbol → Outcome A} → IsLocal next → IsLocalFrom s next
+taken {next = next} l = record {
+  within = λ symbols. within_more (length symbols) (suc (length symbols)) (next symbols) (omega arith) (l.within symbols);
+  alike = l.alike;
+  first = λ rest other. inl (l.within rest);
+}
+
+-- the symbol is left to another reader
+pub untaken : {A : Type 0} {s : Symbol} {next : List Symbol → Outcome A} → IsLocal next → IsLocalFrom s (λ symbols. next (s ∷ symbols))
+untaken {s = s} l = record {
+  within = λ symbols. l.within (s ∷ symbols);
+  alike = λ t rest other front. l.alike t rest other (s ∷ front);
+  first = λ rest other. l.alike s rest other [];
+}
+
+-- one of two ways to go on from a symbol
+pub either_from : {A : Type 0} {s : Symbol} {yes_read no_read : List Symbol → Outcome A} (b : Bool) → IsLocalFrom s yes_read → IsLocalFrom s no_read → IsLocalFrom s (λ symbols. if b then yes_read symbols else no_read symbols)
+either_from true a b = a
+either_from false a b = b
+
+-- by what the first symbol is
+pub by_first : {A : Type 0} {read : List Symbol → Outcome A} → IsWithin 0 (read []) → ((s : Symbol) → IsLocalFrom s (λ symbols. read (s ∷ symbols))) → IsLocal read
+by_first {read = read} none some = record { within = within; alike = alike }
+  where
+    within : (symbols : List Symbol) → IsWithin (length symbols) (read symbols)
+    within [] = none
+    within (s ∷ symbols) = (some s).within symbols
+
+    alike : (t : Symbol) (rest other front : List Symbol) → Alike t rest other (read (front ++ t ∷ rest)) (read (front ++ t ∷ other))
+    alike t rest other [] = (some t).first rest other
+    alike t rest other (s ∷ front) = (some s).alike t rest other front
+
+-- the first symbol is dropped
+pub dropped : {A : Type 0} {next : List Symbol → Outcome A} → IsLocal next → IsLocal (λ symbols. next (drop 1 symbols))
+dropped l = by_first (l.within []) (λ s. taken l)
+
+-- what is found depends on the first symbol alone
+pub record IsFirst {B : Type 0} (find : List Symbol → B) : Type 0 where
+  pub same : (s : Symbol) (rest other : List Symbol) → find (s ∷ rest) ≡ find (s ∷ other)
+
+pub and_first : {test : List Symbol → Bool} (b : Bool) → IsFirst test → IsFirst (λ symbols. b && test symbols)
+and_first true first = first
+and_first false first = record { same = λ s rest other. refl }
+
+-- of texts with a common front the same is found
+first_same : {B : Type 0} {find : List Symbol → B} → IsFirst find → (t : Symbol) (rest other front : List Symbol) → find (front ++ t ∷ rest) ≡ find (front ++ t ∷ other)
+first_same first t rest other [] = first.same t rest other
+first_same first t rest other (s ∷ front) = first.same s (front ++ t ∷ rest) (front ++ t ∷ other)
+
+-- by what the first symbol is found to be
+pub found_local : {A B : Type 0} {find : List Symbol → B} (f : B → List Symbol → Outcome A) → IsFirst find → ((x : B) → IsLocal (f x)) → IsLocal (λ symbols. f (find symbols) symbols)
+found_local {find = find} f first l = record {
+  within = λ symbols. (l (find symbols)).within symbols;
+  alike = λ t rest other front. subst (λ x. Alike t rest other (f (find (front ++ t ∷ rest)) (front ++ t ∷ rest)) (f x (front ++ t ∷ other)))
+      (first_same first t rest other front) ((l (find (front ++ t ∷ rest))).alike t rest other front);
+}
+
+-- one of two readers
+pub either_local : {A : Type 0} {yes_read no_read : List Symbol → Outcome A} (b : Bool) → IsLocal yes_read → IsLocal no_read → IsLocal (λ symbols. if b then yes_read symbols else no_read symbols)
+either_local true a b = a
+either_local false a b = b
+
+pub if_local : {A : Type 0} {test : List Symbol → Bool} {yes_read no_read : List Symbol → Outcome A} → IsFirst test → IsLocal yes_read → IsLocal no_read
+    → IsLocal (λ symbols. if test symbols then yes_read symbols else no_read symbols)
+if_local {yes_read = yes_read} {no_read = no_read} first a b = found_local (λ t symbols. if t then yes_read symbols else no_read symbols) first (λ t. either_local t a b)
+
+pub option_local : {A B : Type 0} {find : List Symbol → Option B} {none : List Symbol → Outcome A} {some : B → List Symbol → Outcome A} → IsFirst find → IsLocal none → ((x : B) → IsLocal (some x))
+    → IsLocal (λ symbols. elim (find symbols) as (λ _. Outcome A) [ None ↦ none symbols | (Some x) ↦ some x symbols ])
+option_local {A} {B} {none = none} {some = some} first a b = found_local (λ f symbols. elim f as (λ _. Outcome A) [ None ↦ none symbols | (Some x) ↦ some x symbols ]) first each
+  where
+    each : (f : Option B) → IsLocal (λ symbols. elim f as (λ _. Outcome A) [ None ↦ none symbols | (Some x) ↦ some x symbols ])
+    each None = a
+    each (Some x) = b x
+
+-- ---- signs and names
+
+pub begins_sign-first : (s : Sign) → IsFirst (begins_sign s)
+unfolding begins_sign
+begins_sign-first s = record { same = same }
+  where
+    same : (t : Symbol) (rest other : List Symbol) → begins_sign s (t ∷ rest) ≡ begins_sign s (t ∷ other)
+    same (symbol.Sign at t) rest other = refl
+    same _ rest other = refl
+
+-- a sign is taken
+pub behind_local : {A : Type 0} {next : List Symbol → Outcome A} (s : Sign) → IsLocal next → IsLocal (λ symbols. behind s symbols >>= next)
+unfolding behind
+behind_local {next = next} s l = found_local (λ b symbols. (if b then Ok (drop 1 symbols) else unexpected symbols) >>= next) (begins_sign-first s) each
+  where
+    each : (b : Bool) → IsLocal (λ symbols. (if b then Ok (drop 1 symbols) else unexpected symbols) >>= next)
+    each true = dropped l
+    each false = unexpected_local
+
+pub name_at-local : IsLocal name_at
+unfolding name_at
+name_at-local = by_first (le_refl 0) some
+  where
+    some : (s : Symbol) → IsLocalFrom s (λ symbols. name_at (s ∷ symbols))
+    some (symbol.Name at word) = taken (gives_local (record { at = at; word = word }))
+    some _ = untaken unexpected_local
+
+within_if : {A : Type 0} (n : ℕ) (b : Bool) (o p : Outcome A) → IsWithin n o → IsWithin n p → IsWithin n (if b then o else p)
+within_if n true o p h k = h
+within_if n false o p h k = k
+
+-- a choice by equal tests
+alike_if : {A : Type 0} (t : Symbol) (rest other : List Symbol) (b c : Bool) (o p u v : Outcome A) → b ≡ c → Alike t rest other o p → Alike t rest other u v → Alike t rest other (if b then o else u) (if c then p else v)
+alike_if {A} t rest other b c o p u v e h k = subst (λ (c : Bool). Alike t rest other (if b then o else u) (if c then p else v)) e (chosen b)
+  where
+    chosen : (b : Bool) → Alike t rest other (if b then o else u) (if b then p else v)
+    chosen true = h
+    chosen false = k
+
+within_drop : {A : Type 0} (n : ℕ) (symbols : List Symbol) (o : Outcome A) → IsWithin (length (drop n symbols)) o → IsWithin (length symbols) o
+within_drop n symbols o h = within_more (length (drop n symbols)) (length symbols) o (omega (arith, length-drop n symbols)) h
+
+-- the signs at the front are counted and dropped
+abbrev pub count_then : {A : Type 0} → Sign → (ℕ → List Symbol → Outcome A) → List Symbol → Outcome A
+count_then s next symbols = next (count_sign s symbols) (drop (count_sign s symbols) symbols)
+
+pub counted_local : {A : Type 0} (s : Sign) (next : ℕ → List Symbol → Outcome A) → ((n : ℕ) → IsLocal (next n)) → IsLocal (count_then s next)
+unfolding count_sign
+counted_local {A} s next l = record {
+  within = λ symbols. within_drop (count_sign s symbols) symbols (count_then s next symbols) ((l (count_sign s symbols)).within (drop (count_sign s symbols) symbols));
+  alike = λ t rest other front. alike t rest other front next l;
+}
+  where
+    at : Bool → (ℕ → List Symbol → Outcome A) → Symbol → List Symbol → Outcome A
+    at b next x symbols = let n = if b then suc (count_sign s symbols) else 0 in next n (drop n (x ∷ symbols))
+
+    each : (b : Bool) (t : Symbol) (rest other : List Symbol) (next : ℕ → List Symbol → Outcome A) → ((n : ℕ) → IsLocal (next n)) → Alike t rest other (at b next t rest) (at b next t other)
+    each true t rest other next l = inl (within_drop (count_sign s rest) rest (next (suc (count_sign s rest)) (drop (count_sign s rest) rest)) ((l (suc (count_sign s rest))).within (drop (count_sign s rest) rest)))
+    each false t rest other next l = (l 0).alike t rest other []
+
+    behind_each : (b : Bool) (t : Symbol) (rest other : List Symbol) (x : Symbol) (front : List Symbol) (next : ℕ → List Symbol → Outcome A) → ((n : ℕ) → IsLocal (next n))
+        → Alike t rest other (count_then s (λ n. next (suc n)) (front ++ t ∷ rest)) (count_then s (λ n. next (suc n)) (front ++ t ∷ other)) → Alike t rest other (at b next x (front ++ t ∷ rest)) (at b next x (front ++ t ∷ other))
+    behind_each true t rest other x front next l h = h
+    behind_each false t rest other x front next l h = (l 0).alike t rest other (x ∷ front)
+
+    alike : (t : Symbol) (rest other front : List Symbol) (next : ℕ → List Symbol → Outcome A) → ((n : ℕ) → IsLocal (next n)) → Alike t rest other (count_then s next (front ++ t ∷ rest)) (count_then s next (front ++ t ∷ other))
+    alike t rest other [] next l = subst (λ b. Alike t rest other (at (begins_sign s (t ∷ rest)) next t rest) (at b next t other))
+        ((begins_sign-first s).same t rest other) (each (begins_sign s (t ∷ rest)) t rest other next l)
+    alike t rest other (x ∷ front) next l = subst (λ b. Alike t rest other (at (begins_sign s (x ∷ front ++ t ∷ rest)) next x (front ++ t ∷ rest)) (at b next x (front ++ t ∷ other)))
+        ((begins_sign-first s).same x (front ++ t ∷ rest) (front ++ t ∷ other))
+        (behind_each (begins_sign s (x ∷ front ++ t ∷ rest)) t rest other x front next l (alike t rest other front (λ n. next (suc n)) (λ n. l (suc n))))
+
+-- ---- types
+
+pub begins_base-first : IsFirst begins_base
+unfolding begins_base
+begins_base-first = record { same = same }
+  where
+    same : (t : Symbol) (rest other : List Symbol) → begins_base (t ∷ rest) ≡ begins_base (t ∷ other)
+    same (symbol.Keyword at keywords.Const) rest other = refl
+    same (symbol.Keyword at _) rest other = refl
+    same _ rest other = refl
+
+pub bare_base_at-local : IsLocal bare_base_at
+unfolding bare_base_at
+bare_base_at-local = by_first (le_refl 0) some
+  where
+    some : (s : Symbol) → IsLocalFrom s (λ symbols. bare_base_at (s ∷ symbols))
+    some (symbol.Keyword at keywords.Char) = taken (gives_local base.Char)
+    some (symbol.Keyword at keywords.Int) = taken (gives_local base.Int)
+    some (symbol.Keyword at keywords.Long) = taken (gives_local base.Long)
+    some (symbol.Keyword at keywords.Mutex) = taken (gives_local base.Mutex)
+    some (symbol.Keyword at keywords.Struct) = taken (then_local _ name_at-local (λ n. gives_local (base.Struct n)))
+    some _ = untaken unexpected_local
+
+pub base_at-local : IsLocal base_at
+unfolding behind_const
+base_at-local = by_first (bare_base_at-local.within []) some
+  where
+    some : (s : Symbol) → IsLocalFrom s (λ symbols. base_at (s ∷ symbols))
+    some (symbol.Keyword at keywords.Const) = taken bare_base_at-local
+    some _ = untaken bare_base_at-local
+
+pub type_at-local : IsLocal type_at
+type_at-local = then_local _ base_at-local (λ b. counted_local signs.Star (λ n symbols. Ok (record { base = b; stars = n }, symbols)) (λ n. gives_local (record { base = b; stars = n })))
+
+pub between_at-local : IsLocal between_at
+between_at-local = behind_local signs.OpenParenthesis (then_local _ type_at-local (λ t. behind_local signs.CloseParenthesis (gives_local t)))
+
+-- ---- lists
+
+module _ {A : Type 0} (item : List Symbol → Outcome A) (l : IsLocal item) where
+  listed_within : (limit : ℕ) (done : List A) (symbols : List Symbol) → IsWithin (length symbols) (listed_at item limit done symbols)
+  listed_within zero done symbols = le_refl (length symbols)
+  listed_within (suc limit) done symbols = within_then (length symbols) (item symbols) _ (l.within symbols)
+      (λ x. within_if (length x.1) (begins_sign signs.Comma x.1) (listed_at item limit (done ++ x.0 ∷ []) (drop 1 x.1)) (Ok (done ++ x.0 ∷ [], x.1))
+      (within_drop 1 x.1 _ (listed_within limit (done ++ x.0 ∷ []) (drop 1 x.1))) (le_refl (length x.1)))
+
+  -- a rest of the front is no longer than the front
+  fits : (t : Symbol) (rest other front left : List Symbol) (x : A) → item (front ++ t ∷ rest) ≡ Ok (x, left ++ t ∷ rest) → length left ≤ length front
+  fits t rest other front left x e =
+      let h : length (left ++ t ∷ rest) ≤ length (front ++ t ∷ rest) = subst (IsWithin (length (front ++ t ∷ rest))) e (l.within (front ++ t ∷ rest)) in
+      omega (arith, length-append left (t ∷ rest), length-append front (t ∷ rest))
+
+  listed_alike : (t : Symbol) (rest other : List Symbol) (one two : ℕ) (done : List A) (front : List Symbol) → length front < one → length front < two
+      → Alike t rest other (listed_at item one done (front ++ t ∷ rest)) (listed_at item two done (front ++ t ∷ other))
+  listed_alike t rest other zero two done front h k = absurd (omega arith)
+  listed_alike t rest other (suc one) zero done front h k = absurd (omega arith)
+  listed_alike t rest other (suc one) (suc two) done front h k = alike_steps t rest other (item (front ++ t ∷ rest)) (item (front ++ t ∷ other)) _ _ (l.alike t rest other front)
+      (λ x. within_if (length x.1) (begins_sign signs.Comma x.1) (listed_at item one (done ++ x.0 ∷ []) (drop 1 x.1)) (Ok (done ++ x.0 ∷ [], x.1))
+      (within_drop 1 x.1 _ (listed_within one (done ++ x.0 ∷ []) (drop 1 x.1))) (le_refl (length x.1)))
+      (λ x left e. alike_if t rest other (begins_sign signs.Comma (left ++ t ∷ rest)) (begins_sign signs.Comma (left ++ t ∷ other)) _ _ _ _ (first_same (begins_sign-first signs.Comma) t rest other left)
+      (more x left (fits t rest other front left x e) (listed_alike t rest other one two (done ++ x ∷ []))) ((gives_local (done ++ x ∷ [])).alike t rest other left))
+    where
+      more : (x : A) (left : List Symbol) → length left ≤ length front
+          → ((front : List Symbol) → length front < one → length front < two → Alike t rest other (listed_at item one (done ++ x ∷ []) (front ++ t ∷ rest)) (listed_at item two (done ++ x ∷ []) (front ++ t ∷ other)))
+          → Alike t rest other (listed_at item one (done ++ x ∷ []) (drop 1 (left ++ t ∷ rest))) (listed_at item two (done ++ x ∷ []) (drop 1 (left ++ t ∷ other)))
+      more x [] f again = inl (listed_within one (done ++ x ∷ []) rest)
+      more x (s ∷ left) f again = again left (omega arith) (omega arith)
+
+-- items with commas between them, by a limit that is no less than there are symbols
+pub listed_local : {A : Type 0} {item : List Symbol → Outcome A} (limit : ℕ → ℕ) → ((n : ℕ) → n ≤ limit n) → IsLocal item → (done : List A) → IsLocal (λ symbols. listed_at item (limit (length symbols)) done symbols)
+listed_local {item = item} limit h l done = record {
+  within = λ symbols. listed_within item l (limit (length symbols)) done symbols;
+  alike = λ t rest other front. listed_alike item l t rest other (limit (length (front ++ t ∷ rest))) (limit (length (front ++ t ∷ other))) done front (below t rest front) (below t other front);
+}
+  where
+    below : (t : Symbol) (rest front : List Symbol) → length front < limit (length (front ++ t ∷ rest))
+    below t rest front = let k = h (length (front ++ t ∷ rest)) in omega (arith, length-append front (t ∷ rest))
+
+-- ---- what takes a symbol
+
+-- fewer symbols are left, where a value is read
+abbrev pub IsBelow : {A : Type 0} → ℕ → Outcome A → Type 0
+IsBelow n (Ok x) = length x.1 < n
+IsBelow n (Err fault) = Unit {0}
+
+-- a value takes a symbol
+pub record IsTaking {A : Type 0} (read : List Symbol → Outcome A) : Type 0 where
+  pub takes : (symbols : List Symbol) → IsBelow (length symbols) (read symbols)
+
+below_more : {A : Type 0} (n m : ℕ) (o : Outcome A) → n ≤ m → IsBelow n o → IsBelow m o
+below_more n m (Ok x) h w = omega arith
+below_more n m (Err fault) h w = tt
+
+-- the first of two readers takes a symbol
+pub then_taking : {A B : Type 0} {read : List Symbol → Outcome A} (next : A × List Symbol → Outcome B) → IsTaking read → ((x : A) → IsLocal (λ symbols. next (x, symbols))) → IsTaking (λ symbols. read symbols >>= next)
+then_taking {A} {B} {read = read} next a b = record { takes = λ symbols. from symbols (read symbols) (a.takes symbols) }
+  where
+    within_below : (n m : ℕ) (o : Outcome B) → n < m → IsWithin n o → IsBelow m o
+    within_below n m (Ok x) h w = omega arith
+    within_below n m (Err fault) h w = tt
+
+    from : (symbols : List Symbol) (o : Outcome A) → IsBelow (length symbols) o → IsBelow (length symbols) (o >>= next)
+    from symbols (Ok x) h = within_below (length x.1) (length symbols) (next x) h ((b x.0).within x.1)
+    from symbols (Err fault) h = tt
+
+-- the second of two readers takes a symbol
+pub then_takes : {A B : Type 0} {read : List Symbol → Outcome A} (next : A × List Symbol → Outcome B) → IsLocal read → ((x : A) → IsTaking (λ symbols. next (x, symbols))) → IsTaking (λ symbols. read symbols >>= next)
+then_takes {A} {B} {read = read} next a b = record { takes = λ symbols. from symbols (read symbols) (a.within symbols) }
+  where
+    from : (symbols : List Symbol) (o : Outcome A) → IsWithin (length symbols) o → IsBelow (length symbols) (o >>= next)
+    from symbols (Ok x) h = below_more (length x.1) (length symbols) (next x) h ((b x.0).takes x.1)
+    from symbols (Err fault) h = tt
+
+-- what stands behind a symbol that is taken
+pub below_taken : {A : Type 0} {next : List Symbol → Outcome A} → IsLocal next → (symbols : List Symbol) → IsBelow (suc (length symbols)) (next symbols)
+below_taken {A} {next = next} l symbols = from (next symbols) (l.within symbols)
+  where
+    from : (o : Outcome A) → IsWithin (length symbols) o → IsBelow (suc (length symbols)) o
+    from (Ok x) h = omega arith
+    from (Err fault) h = tt
+
+-- a sign that is taken
+pub behind_taking : {A : Type 0} {next : List Symbol → Outcome A} (s : Sign) → IsLocal next → IsTaking (λ symbols. behind s symbols >>= next)
+unfolding behind begins_sign
+behind_taking {A} {next = next} s l = record { takes = takes }
+  where
+    each : (b : Bool) (t : Symbol) (symbols : List Symbol) → IsBelow (suc (length symbols)) ((if b then Ok symbols else unexpected (t ∷ symbols)) >>= next)
+    each true t symbols = below_taken l symbols
+    each false t symbols = tt
+
+    takes : (symbols : List Symbol) → IsBelow (length symbols) (behind s symbols >>= next)
+    takes [] = tt
+    takes (t ∷ symbols) = each (begins_sign s (t ∷ symbols)) t symbols
+
+module _ {A : Type 0} (stops : List Symbol → Bool) (item : List Symbol → Outcome A) (first : IsFirst stops) (l : IsLocal item) (takes : IsTaking item) where
+  until_within : (limit : ℕ) (done : List A) (symbols : List Symbol) → IsWithin (length symbols) (until_at stops item limit done symbols)
+  until_within zero done symbols = within_if (length symbols) (stops symbols) (Ok (done, symbols)) (unexpected symbols) (le_refl (length symbols)) (le_refl (length symbols))
+  until_within (suc limit) done symbols = within_if (length symbols) (stops symbols) (Ok (done, symbols)) (item symbols >>= λ x. until_at stops item limit (done ++ x.0 ∷ []) x.1) (le_refl (length symbols))
+      (within_then (length symbols) (item symbols) _ (l.within symbols) (λ x. until_within limit (done ++ x.0 ∷ []) x.1))
+
+  shorter : (t : Symbol) (rest front left : List Symbol) (x : A) → item (front ++ t ∷ rest) ≡ Ok (x, left ++ t ∷ rest) → length left < length front
+  shorter t rest front left x e =
+      let h : length (left ++ t ∷ rest) < length (front ++ t ∷ rest) = subst (IsBelow (length (front ++ t ∷ rest))) e (takes.takes (front ++ t ∷ rest)) in
+      omega (arith, length-append left (t ∷ rest), length-append front (t ∷ rest))
+
+  until_alike : (t : Symbol) (rest other : List Symbol) (one two : ℕ) (done : List A) (front : List Symbol) → length front < one → length front < two
+      → Alike t rest other (until_at stops item one done (front ++ t ∷ rest)) (until_at stops item two done (front ++ t ∷ other))
+  until_alike t rest other zero two done front h k = absurd (omega arith)
+  until_alike t rest other (suc one) zero done front h k = absurd (omega arith)
+  until_alike t rest other (suc one) (suc two) done front h k = alike_if t rest other (stops (front ++ t ∷ rest)) (stops (front ++ t ∷ other)) _ _ _ _ (first_same first t rest other front)
+      ((gives_local done).alike t rest other front)
+      (alike_steps t rest other (item (front ++ t ∷ rest)) (item (front ++ t ∷ other)) _ _ (l.alike t rest other front) (λ x. until_within one (done ++ x.0 ∷ []) x.1)
+      (λ x left e. let less = shorter t rest front left x e in until_alike t rest other one two (done ++ x ∷ []) left (omega arith) (omega arith)))
+
+-- items up to where they stop
+pub until_local : {A : Type 0} {stops : List Symbol → Bool} {item : List Symbol → Outcome A} → IsFirst stops → IsLocal item → IsTaking item → (done : List A) → IsLocal (λ symbols. until_at stops item (length symbols) done symbols)
+until_local {stops = stops} {item = item} first l takes done = record {
+  within = λ symbols. until_within stops item first l takes (length symbols) done symbols;
+  alike = λ t rest other front. until_alike stops item first l takes t rest other (length (front ++ t ∷ rest)) (length (front ++ t ∷ other)) done front (below t rest front) (below t other front);
+}
+  where
+    below : (t : Symbol) (rest front : List Symbol) → length front < length (front ++ t ∷ rest)
+    below t rest front = omega (arith, length-append front (t ∷ rest))
