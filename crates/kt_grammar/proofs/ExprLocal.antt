@@ -1,7 +1,5 @@
 -- Texts with a common front are read as expressions alike.
-use Rattle.std.proofs.Common.{◌≡◌, ℕ, zero, suc, ◌+◌, ◌-◌, Bool, List, [], ◌∷◌, length, Option, Some, None, Ok, Err, refl, le_refl}
-use Rattle.std.specs.Prelude.{if◌then◌else◌}
-use Rattle.kt_grammar.specs.declared.fault.Fault.TheVariants.{TooDeep}
+use Rattle.std.proofs.Common.{◌≡◌, ℕ, zero, suc, ◌+◌, ◌-◌, List, [], ◌∷◌, length, Option, Some, None, Ok, refl, le_refl}
 use Rattle.kt_grammar.specs.declared.keyword.Keyword.TheVariants as keywords
 use Rattle.kt_grammar.specs.declared.keyword.RuleWord.{RuleWord}
 use Rattle.kt_grammar.specs.declared.keyword.RuleWord.TheVariants as rule
@@ -15,24 +13,13 @@ use Rattle.kt_grammar.specs.declared.operator.StepOperator.{StepOperator}
 use Rattle.kt_grammar.specs.declared.tree.Name.{Name}
 use Rattle.kt_grammar.specs.Tree.{Term, Constant, Character, Text, Null, Eof, Named, Called, Parenthesised, SizeOf, RuleValue, OldSymbol, Transformed, Element, Member, Pointed, Stepped, Prefixed, Converted, Operated, Chosen, Assigned, terms_of}
 use Rattle.kt_grammar.specs.Signs.{is_c, same_sign, prefix_of, step_of}
-use Rattle.kt_grammar.specs.Cursor.{◌>>=◌, Outcome, unexpected, listed_at}
+use Rattle.kt_grammar.specs.Cursor.{◌>>=◌, Outcome, listed_at}
 use Rattle.kt_grammar.specs.Reading.{Readers, begins_expr, begins_postfix, deep, deep_level, more_at, index_at, stepped_at, postfix_at, arguments_at, named_at, old_symbol_at, transform_at, rule_at, primary_at, parenthesis_at, prefixed_at, unary_at, binary_here, assign_here, chain_at, choice_at, assignment_at, tail_at, climb_at, level_at, deeper, expr_at}
 use Rattle.kt_grammar.specs.Laws.{ExprIsLocal}
 use Rattle.kt_grammar.specs.Local.{IsLocal}
-use Rattle.kt_grammar.specs.LocalLaws.{IsLocalFrom, IsFirst, then_local, gives_local, unexpected_local, too_deep_local, taken, untaken, by_first, dropped, either_from, and_first, if_local, option_local, begins_sign-first, behind_local, name_at-local, begins_base-first, type_at-local, between_at-local, listed_local}
+use Rattle.kt_grammar.specs.LocalLaws.{IsLocalFrom, IsFirst, then_local, gives_local, unexpected_local, too_deep_local, taken, untaken, by_first, dropped, either_from, and_first, if_local, option_local, begins_sign-first, behind_local, name_at-local, begins_base-first, begins_expr-first, refused_local, type_at-local, between_at-local, listed_local}
 
 -- ---- first symbols
-
-begins_expr-first : (g : Dialect) → IsFirst (begins_expr g)
-unfolding begins_expr
-begins_expr-first g = record { same = same }
-  where
-    same : (s : Symbol) (rest other : List Symbol) → begins_expr g (s ∷ rest) ≡ begins_expr g (s ∷ other)
-    same (symbol.Keyword at keywords.Null) rest other = refl
-    same (symbol.Keyword at keywords.Eof) rest other = refl
-    same (symbol.Keyword at keywords.SizeOf) rest other = refl
-    same (symbol.Keyword at _) rest other = refl
-    same _ rest other = refl
 
 begins_postfix-first : (g : Dialect) → IsFirst (begins_postfix g)
 unfolding begins_postfix
@@ -70,9 +57,6 @@ AreLocal None = Unit {0}
 AreLocal (Some r) = AreLocalReaders r
 
 module _ (g : Dialect) where
-  refused_local : {A : Type 0} {begins : List Symbol → Bool} → IsFirst begins → IsLocal {A = A} (λ symbols. if begins symbols then Err (TooDeep (length symbols)) else unexpected symbols)
-  refused_local first = if_local first too_deep_local unexpected_local
-
   deep_level-local : (r : Option Readers) (least : ℕ) → AreLocal r → IsLocal (deep_level g r least)
   deep_level-local None least l = refused_local (begins_expr-first g)
   deep_level-local (Some r) least l = l.level least

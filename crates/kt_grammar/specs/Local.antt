@@ -41,3 +41,12 @@ Alike t rest other o p = IsWithin (length rest) o ⊎ Same (t ∷ rest) (t ∷ o
 pub record IsLocal {A : Type 0} (read : List Symbol → Outcome A) : Type 0 where
   pub within : (symbols : List Symbol) → IsWithin (length symbols) (read symbols)
   pub alike : (t : Symbol) (rest other front : List Symbol) → Alike t rest other (read (front ++ t ∷ rest)) (read (front ++ t ∷ other))
+
+-- Where the one outcome refuses t, the other does, and as the same kind of fault.
+pub record RefusedAlike {A : Type 0} (t : Symbol) (rest other : List Symbol) (o p : Outcome A) : Type 0 where
+  pub syntax : o ≡ Err (Syntax (length (t ∷ rest))) → p ≡ Err (Syntax (length (t ∷ other)))
+  pub deep : o ≡ Err (TooDeep (length (t ∷ rest))) → p ≡ Err (TooDeep (length (t ∷ other)))
+
+-- a symbol that is refused is so whatever stands behind it
+abbrev pub RefusesAlike : {A : Type 0} → (List Symbol → Outcome A) → Type 0
+RefusesAlike read = (before : List Symbol) (t : Symbol) (rest other : List Symbol) → RefusedAlike t rest other (read (before ++ t ∷ rest)) (read (before ++ t ∷ other))

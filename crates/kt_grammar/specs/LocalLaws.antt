@@ -1,5 +1,5 @@
 -- Laws of reading texts with a common front alike, through what readers are built of.
-use Rattle.std.proofs.Common.{◌≡◌, ℕ, zero, suc, ◌≤◌, ◌<◌, inl, inr, ◌&&◌, Bool, true, false, List, [], ◌∷◌, ◌++◌, length, drop, Option, Some, None, Ok, Err, refl, sym, subst, arith, le_refl, le_trans, length-drop, length-append}
+use Rattle.std.proofs.Common.{◌≡◌, ℕ, zero, suc, ◌≤◌, ◌<◌, inl, inr, ◌&&◌, ◌||◌, Bool, true, false, List, [], ◌∷◌, ◌++◌, length, drop, Option, Some, None, Ok, Err, refl, sym, ap, ◌∙◌, subst, arith, le_refl, le_trans, length-drop, length-append}
 use Rattle.std.specs.Prelude.{if◌then◌else◌}
 use Rattle.kt_grammar.specs.declared.fault.Fault.TheVariants.{Syntax, TooDeep, NoMemory}
 use Rattle.kt_grammar.specs.declared.keyword.Keyword.TheVariants as keywords
@@ -8,9 +8,11 @@ use Rattle.kt_grammar.specs.declared.sign.Sign.TheVariants as signs
 use Rattle.kt_grammar.specs.declared.symbol.Symbol.{Symbol}
 use Rattle.kt_grammar.specs.declared.symbol.Symbol.TheVariants as symbol
 use Rattle.kt_grammar.specs.declared.tree.Base.TheVariants as base
+use Rattle.kt_grammar.specs.declared.operator.Dialect.{Dialect}
+use Rattle.kt_grammar.specs.Signs.{same_sign}
 use Rattle.kt_grammar.specs.Cursor.{◌>>=◌, Outcome, unexpected, begins_sign, behind, name_at, count_sign, listed_at, until_at}
-use Rattle.kt_grammar.specs.Reading.{begins_base, behind_const, bare_base_at, base_at, type_at, between_at}
-use Rattle.kt_grammar.specs.Local.{IsWithin, Answer, Value, Unexpected, Deep, told, Same, Alike, IsLocal}
+use Rattle.kt_grammar.specs.Reading.{begins_expr, begins_base, behind_const, bare_base_at, base_at, type_at, between_at}
+use Rattle.kt_grammar.specs.Local.{IsWithin, Answer, Value, Unexpected, Deep, told, Same, Alike, IsLocal, RefusedAlike, RefusesAlike}
 
 -- ---- steps
 
@@ -109,6 +111,9 @@ pub and_first : {test : List Symbol → Bool} (b : Bool) → IsFirst test → Is
 and_first true first = first
 and_first false first = record { same = λ s rest other. refl }
 
+pub or_first : {one two : List Symbol → Bool} → IsFirst one → IsFirst two → IsFirst (λ symbols. one symbols || two symbols)
+or_first {one = one} {two = two} a b = record { same = λ s rest other. ap (λ x. x || two (s ∷ rest)) (a.same s rest other) ∙ ap (λ y. one (s ∷ other) || y) (b.same s rest other) }
+
 -- of texts with a common front the same is found
 first_same : {B : Type 0} {find : List Symbol → B} → IsFirst find → (t : Symbol) (rest other front : List Symbol) → find (front ++ t ∷ rest) ≡ find (front ++ t ∷ other)
 first_same first t rest other [] = first.same t rest other
@@ -139,6 +144,79 @@ option_local {A} {B} {none = none} {some = some} first a b = found_local (λ f s
     each None = a
     each (Some x) = b x
 
+-- ---- what takes a symbol
+
+-- fewer symbols are left, where a value is read
+abbrev pub IsBelow : {A : Type 0} → ℕ → Outcome A → Type 0
+IsBelow n (Ok x) = length x.1 < n
+IsBelow n (Err fault) = Unit {0}
+
+-- reading is local, and a value takes a symbol
+pub record IsTaking {A : Type 0} (read : List Symbol → Outcome A) : Type 0 where
+  pub local : IsLocal read
+  pub takes : (symbols : List Symbol) → IsBelow (length symbols) (read symbols)
+
+pub below_more : {A : Type 0} (n m : ℕ) (o : Outcome A) → n ≤ m → IsBelow n o → IsBelow m o
+below_more n m (Ok x) h w = omega arith
+below_more n m (Err fault) h w = tt
+
+below_within : {A : Type 0} (n m : ℕ) (o : Outcome A) → n < m → IsWithin n o → IsBelow m o
+below_within n m (Ok x) h w = omega arith
+below_within n m (Err fault) h w = tt
+
+-- the first of two readers takes a symbol
+pub then_taking : {A B : Type 0} {read : List Symbol → Outcome A} (next : A × List Symbol → Outcome B) → IsTaking read → ((x : A) → IsLocal (λ symbols. next (x, symbols))) → IsTaking (λ symbols. read symbols >>= next)
+then_taking {A} {read = read} next a b = record { local = then_local next a.local b; takes = λ symbols. from symbols (read symbols) (a.takes symbols) }
+  where
+    from : (symbols : List Symbol) (o : Outcome A) → IsBelow (length symbols) o → IsBelow (length symbols) (o >>= next)
+    from symbols (Ok x) h = below_within (length x.1) (length symbols) (next x) h ((b x.0).within x.1)
+    from symbols (Err fault) h = tt
+
+-- the second of two readers takes a symbol
+pub then_takes : {A B : Type 0} {read : List Symbol → Outcome A} (next : A × List Symbol → Outcome B) → IsLocal read → ((x : A) → IsTaking (λ symbols. next (x, symbols))) → IsTaking (λ symbols. read symbols >>= next)
+then_takes {A} {read = read} next a b = record { local = then_local next a (λ x. (b x).local); takes = λ symbols. from symbols (read symbols) (a.within symbols) }
+  where
+    from : (symbols : List Symbol) (o : Outcome A) → IsWithin (length symbols) o → IsBelow (length symbols) (o >>= next)
+    from symbols (Ok x) h = below_more (length x.1) (length symbols) (next x) h ((b x.0).takes x.1)
+    from symbols (Err fault) h = tt
+
+-- reading is local from this symbol on, and a value takes it
+pub record IsTakingFrom {A : Type 0} (s : Symbol) (read : List Symbol → Outcome A) : Type 0 where
+  local : IsLocalFrom s read
+  takes : (symbols : List Symbol) → IsBelow (suc (length symbols)) (read symbols)
+
+-- the symbol is taken
+pub takes_it : {A : Type 0} {s : Symbol} {next : List Symbol → Outcome A} → IsLocal next → IsTakingFrom s next
+takes_it {next = next} l = record { local = taken l; takes = λ symbols. below_within (length symbols) (suc (length symbols)) (next symbols) (omega arith) (l.within symbols) }
+
+-- the symbol is left to another reader
+pub leaves_it : {A : Type 0} {s : Symbol} {next : List Symbol → Outcome A} → IsTaking next → IsTakingFrom s (λ symbols. next (s ∷ symbols))
+leaves_it {s = s} l = record { local = untaken l.local; takes = λ symbols. l.takes (s ∷ symbols) }
+
+pub either_takes : {A : Type 0} {s : Symbol} {yes_read no_read : List Symbol → Outcome A} (b : Bool) → IsTakingFrom s yes_read → IsTakingFrom s no_read → IsTakingFrom s (λ symbols. if b then yes_read symbols else no_read symbols)
+either_takes true a b = a
+either_takes false a b = b
+
+-- by what the first symbol is
+pub taking_by_first : {A : Type 0} {read : List Symbol → Outcome A} → IsWithin 0 (read []) → IsBelow 0 (read []) → ((s : Symbol) → IsTakingFrom s (λ symbols. read (s ∷ symbols))) → IsTaking read
+taking_by_first {read = read} none below some = record { local = by_first none (λ s. (some s).local); takes = takes }
+  where
+    takes : (symbols : List Symbol) → IsBelow (length symbols) (read symbols)
+    takes [] = below
+    takes (s ∷ symbols) = (some s).takes symbols
+
+pub unexpected_taking : {A : Type 0} → IsTaking {A = A} unexpected
+unexpected_taking = record { local = unexpected_local; takes = λ symbols. tt }
+
+-- one of two readers, by a test
+pub if_taking : {A : Type 0} {test : List Symbol → Bool} {yes_read no_read : List Symbol → Outcome A} → IsFirst test → IsTaking yes_read → IsTaking no_read
+    → IsTaking (λ symbols. if test symbols then yes_read symbols else no_read symbols)
+if_taking {A} {test = test} {yes_read = yes_read} {no_read = no_read} first a b = record { local = if_local first a.local b.local; takes = λ symbols. from symbols (test symbols) }
+  where
+    from : (symbols : List Symbol) (b : Bool) → IsBelow (length symbols) (if b then yes_read symbols else no_read symbols)
+    from symbols true = a.takes symbols
+    from symbols false = b.takes symbols
+
 -- ---- signs and names
 
 pub begins_sign-first : (s : Sign) → IsFirst (begins_sign s)
@@ -149,14 +227,21 @@ begins_sign-first s = record { same = same }
     same (symbol.Sign at t) rest other = refl
     same _ rest other = refl
 
--- a sign is taken
-pub behind_local : {A : Type 0} {next : List Symbol → Outcome A} (s : Sign) → IsLocal next → IsLocal (λ symbols. behind s symbols >>= next)
-unfolding behind
-behind_local {next = next} s l = found_local (λ b symbols. (if b then Ok (drop 1 symbols) else unexpected symbols) >>= next) (begins_sign-first s) each
+-- a sign that is taken
+pub behind_taking : {A : Type 0} {next : List Symbol → Outcome A} (s : Sign) → IsLocal next → IsTaking (λ symbols. behind s symbols >>= next)
+unfolding behind begins_sign
+behind_taking {A} {next = next} s l = taking_by_first (le_refl 0) tt some
   where
-    each : (b : Bool) → IsLocal (λ symbols. (if b then Ok (drop 1 symbols) else unexpected symbols) >>= next)
-    each true = dropped l
-    each false = unexpected_local
+    some : (t : Symbol) → IsTakingFrom t (λ symbols. behind s (t ∷ symbols) >>= next)
+    some (symbol.Sign at t) = each (same_sign t s)
+      where
+        each : (b : Bool) → IsTakingFrom (symbol.Sign at t) (λ symbols. (if b then Ok symbols else unexpected (symbol.Sign at t ∷ symbols)) >>= next)
+        each true = takes_it l
+        each false = leaves_it unexpected_taking
+    some _ = leaves_it unexpected_taking
+
+pub behind_local : {A : Type 0} {next : List Symbol → Outcome A} (s : Sign) → IsLocal next → IsLocal (λ symbols. behind s symbols >>= next)
+behind_local s l = (behind_taking s l).local
 
 pub name_at-local : IsLocal name_at
 unfolding name_at
@@ -178,7 +263,7 @@ alike_if {A} t rest other b c o p u v e h k = subst (λ (c : Bool). Alike t rest
     chosen true = h
     chosen false = k
 
-within_drop : {A : Type 0} (n : ℕ) (symbols : List Symbol) (o : Outcome A) → IsWithin (length (drop n symbols)) o → IsWithin (length symbols) o
+pub within_drop : {A : Type 0} (n : ℕ) (symbols : List Symbol) (o : Outcome A) → IsWithin (length (drop n symbols)) o → IsWithin (length symbols) o
 within_drop n symbols o h = within_more (length (drop n symbols)) (length symbols) o (omega (arith, length-drop n symbols)) h
 
 -- the signs at the front are counted and dropped
@@ -211,7 +296,22 @@ counted_local {A} s next l = record {
         ((begins_sign-first s).same x (front ++ t ∷ rest) (front ++ t ∷ other))
         (behind_each (begins_sign s (x ∷ front ++ t ∷ rest)) t rest other x front next l (alike t rest other front (λ n. next (suc n)) (λ n. l (suc n))))
 
--- ---- types
+-- ---- types and expressions
+
+pub begins_expr-first : (g : Dialect) → IsFirst (begins_expr g)
+unfolding begins_expr
+begins_expr-first g = record { same = same }
+  where
+    same : (s : Symbol) (rest other : List Symbol) → begins_expr g (s ∷ rest) ≡ begins_expr g (s ∷ other)
+    same (symbol.Keyword at keywords.Null) rest other = refl
+    same (symbol.Keyword at keywords.Eof) rest other = refl
+    same (symbol.Keyword at keywords.SizeOf) rest other = refl
+    same (symbol.Keyword at _) rest other = refl
+    same _ rest other = refl
+
+-- what could begin here is too deep
+pub refused_local : {A : Type 0} {begins : List Symbol → Bool} → IsFirst begins → IsLocal {A = A} (λ symbols. if begins symbols then Err (TooDeep (length symbols)) else unexpected symbols)
+refused_local first = if_local first too_deep_local unexpected_local
 
 pub begins_base-first : IsFirst begins_base
 unfolding begins_base
@@ -222,28 +322,28 @@ begins_base-first = record { same = same }
     same (symbol.Keyword at _) rest other = refl
     same _ rest other = refl
 
-pub bare_base_at-local : IsLocal bare_base_at
+pub bare_base_at-taking : IsTaking bare_base_at
 unfolding bare_base_at
-bare_base_at-local = by_first (le_refl 0) some
+bare_base_at-taking = taking_by_first (le_refl 0) tt some
   where
-    some : (s : Symbol) → IsLocalFrom s (λ symbols. bare_base_at (s ∷ symbols))
-    some (symbol.Keyword at keywords.Char) = taken (gives_local base.Char)
-    some (symbol.Keyword at keywords.Int) = taken (gives_local base.Int)
-    some (symbol.Keyword at keywords.Long) = taken (gives_local base.Long)
-    some (symbol.Keyword at keywords.Mutex) = taken (gives_local base.Mutex)
-    some (symbol.Keyword at keywords.Struct) = taken (then_local _ name_at-local (λ n. gives_local (base.Struct n)))
-    some _ = untaken unexpected_local
+    some : (s : Symbol) → IsTakingFrom s (λ symbols. bare_base_at (s ∷ symbols))
+    some (symbol.Keyword at keywords.Char) = takes_it (gives_local base.Char)
+    some (symbol.Keyword at keywords.Int) = takes_it (gives_local base.Int)
+    some (symbol.Keyword at keywords.Long) = takes_it (gives_local base.Long)
+    some (symbol.Keyword at keywords.Mutex) = takes_it (gives_local base.Mutex)
+    some (symbol.Keyword at keywords.Struct) = takes_it (then_local _ name_at-local (λ n. gives_local (base.Struct n)))
+    some _ = leaves_it unexpected_taking
 
-pub base_at-local : IsLocal base_at
-unfolding behind_const
-base_at-local = by_first (bare_base_at-local.within []) some
+pub base_at-taking : IsTaking base_at
+unfolding behind_const bare_base_at
+base_at-taking = taking_by_first (le_refl 0) tt some
   where
-    some : (s : Symbol) → IsLocalFrom s (λ symbols. base_at (s ∷ symbols))
-    some (symbol.Keyword at keywords.Const) = taken bare_base_at-local
-    some _ = untaken bare_base_at-local
+    some : (s : Symbol) → IsTakingFrom s (λ symbols. base_at (s ∷ symbols))
+    some (symbol.Keyword at keywords.Const) = takes_it bare_base_at-taking.local
+    some _ = leaves_it bare_base_at-taking
 
 pub type_at-local : IsLocal type_at
-type_at-local = then_local _ base_at-local (λ b. counted_local signs.Star (λ n symbols. Ok (record { base = b; stars = n }, symbols)) (λ n. gives_local (record { base = b; stars = n })))
+type_at-local = then_local _ base_at-taking.local (λ b. counted_local signs.Star (λ n symbols. Ok (record { base = b; stars = n }, symbols)) (λ n. gives_local (record { base = b; stars = n })))
 
 pub between_at-local : IsLocal between_at
 between_at-local = behind_local signs.OpenParenthesis (then_local _ type_at-local (λ t. behind_local signs.CloseParenthesis (gives_local t)))
@@ -289,71 +389,15 @@ listed_local {item = item} limit h l done = record {
     below : (t : Symbol) (rest front : List Symbol) → length front < limit (length (front ++ t ∷ rest))
     below t rest front = let k = h (length (front ++ t ∷ rest)) in omega (arith, length-append front (t ∷ rest))
 
--- ---- what takes a symbol
-
--- fewer symbols are left, where a value is read
-abbrev pub IsBelow : {A : Type 0} → ℕ → Outcome A → Type 0
-IsBelow n (Ok x) = length x.1 < n
-IsBelow n (Err fault) = Unit {0}
-
--- a value takes a symbol
-pub record IsTaking {A : Type 0} (read : List Symbol → Outcome A) : Type 0 where
-  pub takes : (symbols : List Symbol) → IsBelow (length symbols) (read symbols)
-
-below_more : {A : Type 0} (n m : ℕ) (o : Outcome A) → n ≤ m → IsBelow n o → IsBelow m o
-below_more n m (Ok x) h w = omega arith
-below_more n m (Err fault) h w = tt
-
--- the first of two readers takes a symbol
-pub then_taking : {A B : Type 0} {read : List Symbol → Outcome A} (next : A × List Symbol → Outcome B) → IsTaking read → ((x : A) → IsLocal (λ symbols. next (x, symbols))) → IsTaking (λ symbols. read symbols >>= next)
-then_taking {A} {B} {read = read} next a b = record { takes = λ symbols. from symbols (read symbols) (a.takes symbols) }
-  where
-    within_below : (n m : ℕ) (o : Outcome B) → n < m → IsWithin n o → IsBelow m o
-    within_below n m (Ok x) h w = omega arith
-    within_below n m (Err fault) h w = tt
-
-    from : (symbols : List Symbol) (o : Outcome A) → IsBelow (length symbols) o → IsBelow (length symbols) (o >>= next)
-    from symbols (Ok x) h = within_below (length x.1) (length symbols) (next x) h ((b x.0).within x.1)
-    from symbols (Err fault) h = tt
-
--- the second of two readers takes a symbol
-pub then_takes : {A B : Type 0} {read : List Symbol → Outcome A} (next : A × List Symbol → Outcome B) → IsLocal read → ((x : A) → IsTaking (λ symbols. next (x, symbols))) → IsTaking (λ symbols. read symbols >>= next)
-then_takes {A} {B} {read = read} next a b = record { takes = λ symbols. from symbols (read symbols) (a.within symbols) }
-  where
-    from : (symbols : List Symbol) (o : Outcome A) → IsWithin (length symbols) o → IsBelow (length symbols) (o >>= next)
-    from symbols (Ok x) h = below_more (length x.1) (length symbols) (next x) h ((b x.0).takes x.1)
-    from symbols (Err fault) h = tt
-
--- what stands behind a symbol that is taken
-pub below_taken : {A : Type 0} {next : List Symbol → Outcome A} → IsLocal next → (symbols : List Symbol) → IsBelow (suc (length symbols)) (next symbols)
-below_taken {A} {next = next} l symbols = from (next symbols) (l.within symbols)
-  where
-    from : (o : Outcome A) → IsWithin (length symbols) o → IsBelow (suc (length symbols)) o
-    from (Ok x) h = omega arith
-    from (Err fault) h = tt
-
--- a sign that is taken
-pub behind_taking : {A : Type 0} {next : List Symbol → Outcome A} (s : Sign) → IsLocal next → IsTaking (λ symbols. behind s symbols >>= next)
-unfolding behind begins_sign
-behind_taking {A} {next = next} s l = record { takes = takes }
-  where
-    each : (b : Bool) (t : Symbol) (symbols : List Symbol) → IsBelow (suc (length symbols)) ((if b then Ok symbols else unexpected (t ∷ symbols)) >>= next)
-    each true t symbols = below_taken l symbols
-    each false t symbols = tt
-
-    takes : (symbols : List Symbol) → IsBelow (length symbols) (behind s symbols >>= next)
-    takes [] = tt
-    takes (t ∷ symbols) = each (begins_sign s (t ∷ symbols)) t symbols
-
-module _ {A : Type 0} (stops : List Symbol → Bool) (item : List Symbol → Outcome A) (first : IsFirst stops) (l : IsLocal item) (takes : IsTaking item) where
+module _ {A : Type 0} (stops : List Symbol → Bool) (item : List Symbol → Outcome A) (first : IsFirst stops) (l : IsTaking item) where
   until_within : (limit : ℕ) (done : List A) (symbols : List Symbol) → IsWithin (length symbols) (until_at stops item limit done symbols)
   until_within zero done symbols = within_if (length symbols) (stops symbols) (Ok (done, symbols)) (unexpected symbols) (le_refl (length symbols)) (le_refl (length symbols))
   until_within (suc limit) done symbols = within_if (length symbols) (stops symbols) (Ok (done, symbols)) (item symbols >>= λ x. until_at stops item limit (done ++ x.0 ∷ []) x.1) (le_refl (length symbols))
-      (within_then (length symbols) (item symbols) _ (l.within symbols) (λ x. until_within limit (done ++ x.0 ∷ []) x.1))
+      (within_then (length symbols) (item symbols) _ (l.local.within symbols) (λ x. until_within limit (done ++ x.0 ∷ []) x.1))
 
   shorter : (t : Symbol) (rest front left : List Symbol) (x : A) → item (front ++ t ∷ rest) ≡ Ok (x, left ++ t ∷ rest) → length left < length front
   shorter t rest front left x e =
-      let h : length (left ++ t ∷ rest) < length (front ++ t ∷ rest) = subst (IsBelow (length (front ++ t ∷ rest))) e (takes.takes (front ++ t ∷ rest)) in
+      let h : length (left ++ t ∷ rest) < length (front ++ t ∷ rest) = subst (IsBelow (length (front ++ t ∷ rest))) e (l.takes (front ++ t ∷ rest)) in
       omega (arith, length-append left (t ∷ rest), length-append front (t ∷ rest))
 
   until_alike : (t : Symbol) (rest other : List Symbol) (one two : ℕ) (done : List A) (front : List Symbol) → length front < one → length front < two
@@ -362,15 +406,37 @@ module _ {A : Type 0} (stops : List Symbol → Bool) (item : List Symbol → Out
   until_alike t rest other (suc one) zero done front h k = absurd (omega arith)
   until_alike t rest other (suc one) (suc two) done front h k = alike_if t rest other (stops (front ++ t ∷ rest)) (stops (front ++ t ∷ other)) _ _ _ _ (first_same first t rest other front)
       ((gives_local done).alike t rest other front)
-      (alike_steps t rest other (item (front ++ t ∷ rest)) (item (front ++ t ∷ other)) _ _ (l.alike t rest other front) (λ x. until_within one (done ++ x.0 ∷ []) x.1)
+      (alike_steps t rest other (item (front ++ t ∷ rest)) (item (front ++ t ∷ other)) _ _ (l.local.alike t rest other front) (λ x. until_within one (done ++ x.0 ∷ []) x.1)
       (λ x left e. let less = shorter t rest front left x e in until_alike t rest other one two (done ++ x ∷ []) left (omega arith) (omega arith)))
 
 -- items up to where they stop
-pub until_local : {A : Type 0} {stops : List Symbol → Bool} {item : List Symbol → Outcome A} → IsFirst stops → IsLocal item → IsTaking item → (done : List A) → IsLocal (λ symbols. until_at stops item (length symbols) done symbols)
-until_local {stops = stops} {item = item} first l takes done = record {
-  within = λ symbols. until_within stops item first l takes (length symbols) done symbols;
-  alike = λ t rest other front. until_alike stops item first l takes t rest other (length (front ++ t ∷ rest)) (length (front ++ t ∷ other)) done front (below t rest front) (below t other front);
+pub until_local : {A : Type 0} {stops : List Symbol → Bool} {item : List Symbol → Outcome A} → IsFirst stops → IsTaking item → (done : List A) → IsLocal (λ symbols. until_at stops item (length symbols) done symbols)
+until_local {stops = stops} {item = item} first l done = record {
+  within = λ symbols. until_within stops item first l (length symbols) done symbols;
+  alike = λ t rest other front. until_alike stops item first l t rest other (length (front ++ t ∷ rest)) (length (front ++ t ∷ other)) done front (below t rest front) (below t other front);
 }
   where
     below : (t : Symbol) (rest front : List Symbol) → length front < length (front ++ t ∷ rest)
     below t rest front = omega (arith, length-append front (t ∷ rest))
+
+-- ---- refusals
+
+-- what stands in no front does so whatever stands behind it
+same_left : (t : Symbol) (rest other front : List Symbol) → length (front ++ t ∷ rest) ≡ length (t ∷ rest) → length (front ++ t ∷ other) ≡ length (t ∷ other)
+same_left t rest other front e = omega (arith, length-append front (t ∷ rest), length-append front (t ∷ other))
+
+told_alike : {A : Type 0} (t : Symbol) (rest other : List Symbol) (answer : Answer A) → RefusedAlike t rest other (told (t ∷ rest) answer) (told (t ∷ other) answer)
+told_alike t rest other (Value x front) = record { syntax = λ e. absurd cc; deep = λ e. absurd cc }
+told_alike t rest other (Unexpected front) = record { syntax = λ e. ap (λ n. Err (Syntax n)) (same_left t rest other front cc); deep = λ e. absurd cc }
+told_alike t rest other (Deep front) = record { syntax = λ e. absurd cc; deep = λ e. ap (λ n. Err (TooDeep n)) (same_left t rest other front cc) }
+
+-- a symbol that is refused is so whatever stands behind it
+pub refuses_alike : {A : Type 0} {read : List Symbol → Outcome A} → IsLocal read → RefusesAlike read
+refuses_alike {A} {read = read} l before t rest other = from (l.alike t rest other before)
+  where
+    from : Alike t rest other (read (before ++ t ∷ rest)) (read (before ++ t ∷ other)) → RefusedAlike t rest other (read (before ++ t ∷ rest)) (read (before ++ t ∷ other))
+    from (inl w) = record {
+      syntax = λ e. let h : length (t ∷ rest) ≤ length rest = subst (IsWithin (length rest)) e w in absurd (omega arith);
+      deep = λ e. let h : length (t ∷ rest) ≤ length rest = subst (IsWithin (length rest)) e w in absurd (omega arith);
+    }
+    from (inr s) = as_told (RefusedAlike t rest other) s (told_alike t rest other s.answer)
