@@ -16,12 +16,14 @@ use Rattle.kt_grammar.specs.Local.{IsWithin, Answer, Value, Unexpected, Deep, to
 
 -- ---- steps
 
+-- no more than so many is no more than a greater number
 within_more : {A : Type 0} (n m : ℕ) (o : Outcome A) → n ≤ m → IsWithin n o → IsWithin m o
 within_more n m (Ok x) h w = le_trans w h
 within_more n m (Err (Syntax left)) h w = le_trans w h
 within_more n m (Err (TooDeep left)) h w = le_trans w h
 within_more n m (Err NoMemory) h w = tt
 
+-- a step that leaves no more than it got goes on
 within_then : {A B : Type 0} (n : ℕ) (o : Outcome A) (next : A × List Symbol → Outcome B) → IsWithin n o → ((x : A × List Symbol) → IsWithin (length x.1) (next x)) → IsWithin n (o >>= next)
 within_then n (Ok x) next w h = within_more (length x.1) n (next x) w (h x)
 within_then n (Err fault) next w h = w
@@ -29,6 +31,22 @@ within_then n (Err fault) next w h = w
 -- what holds of the answers as they are told holds of the outcomes
 as_told : {A : Type 0} {behind other : List Symbol} {o p : Outcome A} (P : Outcome A → Outcome A → Type 0) (s : Same behind other o p) → P (told behind s.answer) (told other s.answer) → P o p
 as_told {behind = behind} {p = p} P s h = subst (λ o. P o p) (sym s.first) (subst (λ p. P (told behind s.answer) p) (sym s.second) h)
+
+within_if : {A : Type 0} (n : ℕ) (b : Bool) (o p : Outcome A) → IsWithin n o → IsWithin n p → IsWithin n (if b then o else p)
+within_if n true o p h k = h
+within_if n false o p h k = k
+
+-- a choice by equal tests
+alike_if : {A : Type 0} (t : Symbol) (rest other : List Symbol) (b c : Bool) (o p u v : Outcome A) → b ≡ c → Alike t rest other o p → Alike t rest other u v → Alike t rest other (if b then o else u) (if c then p else v)
+alike_if {A} t rest other b c o p u v e h k = subst (λ (c : Bool). Alike t rest other (if b then o else u) (if c then p else v)) e (chosen b)
+  where
+    chosen : (b : Bool) → Alike t rest other (if b then o else u) (if b then p else v)
+    chosen true = h
+    chosen false = k
+
+-- what is left of what is left
+pub within_drop : {A : Type 0} (n : ℕ) (symbols : List Symbol) (o : Outcome A) → IsWithin (length (drop n symbols)) o → IsWithin (length symbols) o
+within_drop n symbols o h = within_more (length (drop n symbols)) (length symbols) o (omega (arith, length-drop n symbols)) h
 
 -- one step and then another, where the second step may know which text it reads
 alike_steps : {A B : Type 0} (t : Symbol) (rest other : List Symbol) (o p : Outcome A) (f g : A × List Symbol → Outcome B) → Alike t rest other o p → ((x : A × List Symbol) → IsWithin (length x.1) (f x))
@@ -52,9 +70,11 @@ then_local {read = read} next a b = record {
 pub gives_local : {A : Type 0} (x : A) → IsLocal (λ symbols. Ok (x, symbols))
 gives_local x = record { within = λ symbols. le_refl (length symbols); alike = λ t rest other front. inr (record { answer = Value x front; first = refl; second = refl }) }
 
+-- the front symbol cannot come here
 pub unexpected_local : {A : Type 0} → IsLocal {A = A} unexpected
 unexpected_local = record { within = λ symbols. le_refl (length symbols); alike = λ t rest other front. inr (record { answer = Unexpected front; first = refl; second = refl }) }
 
+-- the front symbol is too deep
 pub too_deep_local : {A : Type 0} → IsLocal {A = A} (λ symbols. Err (TooDeep (length symbols)))
 too_deep_local = record { within = λ symbols. le_refl (length symbols); alike = λ t rest other front. inr (record { answer = Deep front; first = refl; second = refl }) }
 
@@ -107,10 +127,12 @@ dropped l = by_first (l.within []) (λ s. taken l)
 pub record IsFirst {B : Type 0} (find : List Symbol → B) : Type 0 where
   pub same : (s : Symbol) (rest other : List Symbol) → find (s ∷ rest) ≡ find (s ∷ other)
 
+-- a test of the first symbol, under a condition
 pub and_first : {test : List Symbol → Bool} (b : Bool) → IsFirst test → IsFirst (λ symbols. b && test symbols)
 and_first true first = first
 and_first false first = record { same = λ s rest other. refl }
 
+-- one of two tests of the first symbol holds
 pub or_first : {one two : List Symbol → Bool} → IsFirst one → IsFirst two → IsFirst (λ symbols. one symbols || two symbols)
 or_first {one = one} {two = two} a b = record { same = λ s rest other. ap (λ x. x || two (s ∷ rest)) (a.same s rest other) ∙ ap (λ y. one (s ∷ other) || y) (b.same s rest other) }
 
@@ -132,10 +154,12 @@ pub either_local : {A : Type 0} {yes_read no_read : List Symbol → Outcome A} (
 either_local true a b = a
 either_local false a b = b
 
+-- one of two readers, by a test of the first symbol
 pub if_local : {A : Type 0} {test : List Symbol → Bool} {yes_read no_read : List Symbol → Outcome A} → IsFirst test → IsLocal yes_read → IsLocal no_read
     → IsLocal (λ symbols. if test symbols then yes_read symbols else no_read symbols)
 if_local {yes_read = yes_read} {no_read = no_read} first a b = found_local (λ t symbols. if t then yes_read symbols else no_read symbols) first (λ t. either_local t a b)
 
+-- one of two readers, by whether something is found at the first symbol
 pub option_local : {A B : Type 0} {find : List Symbol → Option B} {none : List Symbol → Outcome A} {some : B → List Symbol → Outcome A} → IsFirst find → IsLocal none → ((x : B) → IsLocal (some x))
     → IsLocal (λ symbols. elim (find symbols) as (λ _. Outcome A) [ None ↦ none symbols | (Some x) ↦ some x symbols ])
 option_local {A} {B} {none = none} {some = some} first a b = found_local (λ f symbols. elim f as (λ _. Outcome A) [ None ↦ none symbols | (Some x) ↦ some x symbols ]) first each
@@ -156,6 +180,7 @@ pub record IsTaking {A : Type 0} (read : List Symbol → Outcome A) : Type 0 whe
   pub local : IsLocal read
   pub takes : (symbols : List Symbol) → IsBelow (length symbols) (read symbols)
 
+-- fewer than so many is fewer than a greater number
 pub below_more : {A : Type 0} (n m : ℕ) (o : Outcome A) → n ≤ m → IsBelow n o → IsBelow m o
 below_more n m (Ok x) h w = omega arith
 below_more n m (Err fault) h w = tt
@@ -193,6 +218,7 @@ takes_it {next = next} l = record { local = taken l; takes = λ symbols. below_w
 pub leaves_it : {A : Type 0} {s : Symbol} {next : List Symbol → Outcome A} → IsTaking next → IsTakingFrom s (λ symbols. next (s ∷ symbols))
 leaves_it {s = s} l = record { local = untaken l.local; takes = λ symbols. l.takes (s ∷ symbols) }
 
+-- one of two ways to go on from a symbol
 pub either_takes : {A : Type 0} {s : Symbol} {yes_read no_read : List Symbol → Outcome A} (b : Bool) → IsTakingFrom s yes_read → IsTakingFrom s no_read → IsTakingFrom s (λ symbols. if b then yes_read symbols else no_read symbols)
 either_takes true a b = a
 either_takes false a b = b
@@ -208,7 +234,7 @@ taking_by_first {read = read} none below some = record { local = by_first none (
 pub unexpected_taking : {A : Type 0} → IsTaking {A = A} unexpected
 unexpected_taking = record { local = unexpected_local; takes = λ symbols. tt }
 
--- one of two readers, by a test
+-- one of two readers, by a test of the first symbol
 pub if_taking : {A : Type 0} {test : List Symbol → Bool} {yes_read no_read : List Symbol → Outcome A} → IsFirst test → IsTaking yes_read → IsTaking no_read
     → IsTaking (λ symbols. if test symbols then yes_read symbols else no_read symbols)
 if_taking {A} {test = test} {yes_read = yes_read} {no_read = no_read} first a b = record { local = if_local first a.local b.local; takes = λ symbols. from symbols (test symbols) }
@@ -227,7 +253,7 @@ begins_sign-first s = record { same = same }
     same (symbol.Sign at t) rest other = refl
     same _ rest other = refl
 
--- a sign that is taken
+-- a sign, and then another reader
 pub behind_taking : {A : Type 0} {next : List Symbol → Outcome A} (s : Sign) → IsLocal next → IsTaking (λ symbols. behind s symbols >>= next)
 unfolding behind begins_sign
 behind_taking {A} {next = next} s l = taking_by_first (le_refl 0) tt some
@@ -251,25 +277,11 @@ name_at-local = by_first (le_refl 0) some
     some (symbol.Name at word) = taken (gives_local (record { at = at; word = word }))
     some _ = untaken unexpected_local
 
-within_if : {A : Type 0} (n : ℕ) (b : Bool) (o p : Outcome A) → IsWithin n o → IsWithin n p → IsWithin n (if b then o else p)
-within_if n true o p h k = h
-within_if n false o p h k = k
-
--- a choice by equal tests
-alike_if : {A : Type 0} (t : Symbol) (rest other : List Symbol) (b c : Bool) (o p u v : Outcome A) → b ≡ c → Alike t rest other o p → Alike t rest other u v → Alike t rest other (if b then o else u) (if c then p else v)
-alike_if {A} t rest other b c o p u v e h k = subst (λ (c : Bool). Alike t rest other (if b then o else u) (if c then p else v)) e (chosen b)
-  where
-    chosen : (b : Bool) → Alike t rest other (if b then o else u) (if b then p else v)
-    chosen true = h
-    chosen false = k
-
-pub within_drop : {A : Type 0} (n : ℕ) (symbols : List Symbol) (o : Outcome A) → IsWithin (length (drop n symbols)) o → IsWithin (length symbols) o
-within_drop n symbols o h = within_more (length (drop n symbols)) (length symbols) o (omega (arith, length-drop n symbols)) h
-
--- the signs at the front are counted and dropped
+-- the reader behind the signs at the front is told how many they are
 abbrev pub count_then : {A : Type 0} → Sign → (ℕ → List Symbol → Outcome A) → List Symbol → Outcome A
 count_then s next symbols = next (count_sign s symbols) (drop (count_sign s symbols) symbols)
 
+-- the signs at the front, and then another reader
 pub counted_local : {A : Type 0} (s : Sign) (next : ℕ → List Symbol → Outcome A) → ((n : ℕ) → IsLocal (next n)) → IsLocal (count_then s next)
 unfolding count_sign
 counted_local {A} s next l = record {
@@ -351,27 +363,31 @@ between_at-local = behind_local signs.OpenParenthesis (then_local _ type_at-loca
 -- ---- lists
 
 module _ {A : Type 0} (item : List Symbol → Outcome A) (l : IsLocal item) where
+  -- behind an item no more symbols are left than there were
+  more_within : (limit : ℕ) (done : List A) (x : A × List Symbol) → IsWithin (length (drop 1 x.1)) (listed_at item limit (done ++ x.0 ∷ []) (drop 1 x.1))
+      → IsWithin (length x.1) (if begins_sign signs.Comma x.1 then listed_at item limit (done ++ x.0 ∷ []) (drop 1 x.1) else Ok (done ++ x.0 ∷ [], x.1))
+  more_within limit done x h = within_if (length x.1) (begins_sign signs.Comma x.1) _ _ (within_drop 1 x.1 _ h) (le_refl (length x.1))
+
   listed_within : (limit : ℕ) (done : List A) (symbols : List Symbol) → IsWithin (length symbols) (listed_at item limit done symbols)
   listed_within zero done symbols = le_refl (length symbols)
   listed_within (suc limit) done symbols = within_then (length symbols) (item symbols) _ (l.within symbols)
-      (λ x. within_if (length x.1) (begins_sign signs.Comma x.1) (listed_at item limit (done ++ x.0 ∷ []) (drop 1 x.1)) (Ok (done ++ x.0 ∷ [], x.1))
-      (within_drop 1 x.1 _ (listed_within limit (done ++ x.0 ∷ []) (drop 1 x.1))) (le_refl (length x.1)))
+      (λ x. more_within limit done x (listed_within limit (done ++ x.0 ∷ []) (drop 1 x.1)))
 
   -- a rest of the front is no longer than the front
-  fits : (t : Symbol) (rest other front left : List Symbol) (x : A) → item (front ++ t ∷ rest) ≡ Ok (x, left ++ t ∷ rest) → length left ≤ length front
-  fits t rest other front left x e =
+  fits : (t : Symbol) (rest front left : List Symbol) (x : A) → item (front ++ t ∷ rest) ≡ Ok (x, left ++ t ∷ rest) → length left ≤ length front
+  fits t rest front left x e =
       let h : length (left ++ t ∷ rest) ≤ length (front ++ t ∷ rest) = subst (IsWithin (length (front ++ t ∷ rest))) e (l.within (front ++ t ∷ rest)) in
       omega (arith, length-append left (t ∷ rest), length-append front (t ∷ rest))
 
+  -- limits that are no less than there are symbols do not matter
   listed_alike : (t : Symbol) (rest other : List Symbol) (one two : ℕ) (done : List A) (front : List Symbol) → length front < one → length front < two
       → Alike t rest other (listed_at item one done (front ++ t ∷ rest)) (listed_at item two done (front ++ t ∷ other))
   listed_alike t rest other zero two done front h k = absurd (omega arith)
   listed_alike t rest other (suc one) zero done front h k = absurd (omega arith)
   listed_alike t rest other (suc one) (suc two) done front h k = alike_steps t rest other (item (front ++ t ∷ rest)) (item (front ++ t ∷ other)) _ _ (l.alike t rest other front)
-      (λ x. within_if (length x.1) (begins_sign signs.Comma x.1) (listed_at item one (done ++ x.0 ∷ []) (drop 1 x.1)) (Ok (done ++ x.0 ∷ [], x.1))
-      (within_drop 1 x.1 _ (listed_within one (done ++ x.0 ∷ []) (drop 1 x.1))) (le_refl (length x.1)))
+      (λ x. more_within one done x (listed_within one (done ++ x.0 ∷ []) (drop 1 x.1)))
       (λ x left e. alike_if t rest other (begins_sign signs.Comma (left ++ t ∷ rest)) (begins_sign signs.Comma (left ++ t ∷ other)) _ _ _ _ (first_same (begins_sign-first signs.Comma) t rest other left)
-      (more x left (fits t rest other front left x e) (listed_alike t rest other one two (done ++ x ∷ []))) ((gives_local (done ++ x ∷ [])).alike t rest other left))
+      (more x left (fits t rest front left x e) (listed_alike t rest other one two (done ++ x ∷ []))) ((gives_local (done ++ x ∷ [])).alike t rest other left))
     where
       more : (x : A) (left : List Symbol) → length left ≤ length front
           → ((front : List Symbol) → length front < one → length front < two → Alike t rest other (listed_at item one (done ++ x ∷ []) (front ++ t ∷ rest)) (listed_at item two (done ++ x ∷ []) (front ++ t ∷ other)))
@@ -395,11 +411,13 @@ module _ {A : Type 0} (stops : List Symbol → Bool) (item : List Symbol → Out
   until_within (suc limit) done symbols = within_if (length symbols) (stops symbols) (Ok (done, symbols)) (item symbols >>= λ x. until_at stops item limit (done ++ x.0 ∷ []) x.1) (le_refl (length symbols))
       (within_then (length symbols) (item symbols) _ (l.local.within symbols) (λ x. until_within limit (done ++ x.0 ∷ []) x.1))
 
+  -- an item takes a symbol of the front
   shorter : (t : Symbol) (rest front left : List Symbol) (x : A) → item (front ++ t ∷ rest) ≡ Ok (x, left ++ t ∷ rest) → length left < length front
   shorter t rest front left x e =
       let h : length (left ++ t ∷ rest) < length (front ++ t ∷ rest) = subst (IsBelow (length (front ++ t ∷ rest))) e (l.takes (front ++ t ∷ rest)) in
       omega (arith, length-append left (t ∷ rest), length-append front (t ∷ rest))
 
+  -- limits that are no less than there are symbols do not matter
   until_alike : (t : Symbol) (rest other : List Symbol) (one two : ℕ) (done : List A) (front : List Symbol) → length front < one → length front < two
       → Alike t rest other (until_at stops item one done (front ++ t ∷ rest)) (until_at stops item two done (front ++ t ∷ other))
   until_alike t rest other zero two done front h k = absurd (omega arith)
@@ -421,10 +439,11 @@ until_local {stops = stops} {item = item} first l done = record {
 
 -- ---- refusals
 
--- what stands in no front does so whatever stands behind it
+-- where nothing of the front is left on the one text, nothing is on the other
 same_left : (t : Symbol) (rest other front : List Symbol) → length (front ++ t ∷ rest) ≡ length (t ∷ rest) → length (front ++ t ∷ other) ≡ length (t ∷ other)
 same_left t rest other front e = omega (arith, length-append front (t ∷ rest), length-append front (t ∷ other))
 
+-- one answer refuses a symbol on both texts
 told_alike : {A : Type 0} (t : Symbol) (rest other : List Symbol) (answer : Answer A) → RefusedAlike t rest other (told (t ∷ rest) answer) (told (t ∷ other) answer)
 told_alike t rest other (Value x front) = record { syntax = λ e. absurd cc; deep = λ e. absurd cc }
 told_alike t rest other (Unexpected front) = record { syntax = λ e. ap (λ n. Err (Syntax n)) (same_left t rest other front cc); deep = λ e. absurd cc }
