@@ -4,5 +4,5 @@ pub mod Resuming
 pub mod Back
 pub mod ExprFaults
 pub mod ExprStands
-pub mod Local
+pub mod ExprLocal
 mod Operators

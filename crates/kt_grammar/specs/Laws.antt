@@ -14,6 +14,7 @@ use Rattle.kt_grammar.specs.Marks.{Mark, symbols_of, IsShallow}
 use Rattle.kt_grammar.specs.Spelling.{level, spells}
 use Rattle.kt_grammar.specs.Reading.{begins_expr, begins_postfix, expr_at}
 use Rattle.kt_grammar.specs.Cut.{cut}
+use Rattle.kt_grammar.specs.Local.{IsLocal}
 
 -- the level that an expression needs to be the left operand of a binary operator; 0 where the sign is none
 abbrev pub binary_needs : Sign → ℕ
@@ -95,3 +96,7 @@ abbrev pub ExprGoesOn : Type 0
 ExprGoesOn =
     (g : Dialect) (d : ℕ) (s : Symbol) (rest : List Symbol) → begins_expr g (s ∷ rest) ≡ true
     → (others : List Mark) × some_expr g 0 d (record { symbol = s; depth = d } ∷ others)
+
+-- texts with a common front are read as expressions alike
+abbrev pub ExprIsLocal : Type 0
+ExprIsLocal = (g : Dialect) (n : ℕ) → IsLocal (expr_at g n)

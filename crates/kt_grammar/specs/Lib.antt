@@ -6,9 +6,10 @@ pub mod Spelling
 pub mod Cursor
 pub mod Reading
 pub mod Cut
+pub mod Local
 pub mod Laws
 pub mod StandsLaws
 pub mod CutLaws
 pub mod BackLaws
 pub mod FaultLaws
-pub mod Locality
+pub mod LocalLaws

@@ -4,6 +4,7 @@
 mod fault;
 mod keyword;
 mod laws;
+mod local;
 mod operator;
 mod sign;
 mod stands;
@@ -14,6 +15,7 @@ mod word;
 pub use fault::Fault;
 pub use keyword::{Keyword, RuleWord};
 pub use laws::expr_laws;
+pub use local::expr_local_law;
 pub use operator::{AssignOperator, BinaryOperator, Dialect, PrefixOperator, StepOperator};
 pub use sign::Sign;
 pub use stands::{expr_fault_law, expr_goes_on_law, expr_stands_law};

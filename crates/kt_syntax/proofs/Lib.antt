@@ -16,3 +16,4 @@ pub mod FaultSteps
 pub mod DeclaratorFaults
 pub mod StatementFaults
 pub mod ExternalFaults
+pub mod FileLocal

@@ -5,3 +5,4 @@ pub mod File
 pub mod Laws
 pub mod StandLaws
 pub mod ListStands
+pub mod Local
