@@ -17,3 +17,4 @@ pub mod DeclaratorFaults
 pub mod StatementFaults
 pub mod ExternalFaults
 pub mod FileLocal
+pub mod FaultsAreThere

@@ -6,3 +6,4 @@ pub mod Laws
 pub mod StandLaws
 pub mod ListStands
 pub mod Local
+pub mod FaultPlaces

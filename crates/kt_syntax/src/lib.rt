@@ -2,10 +2,12 @@
 #![tactic(auto)]
 
 mod laws;
+mod places;
 mod stands;
 mod tree;
 
 pub use laws::file_laws;
+pub use places::file_places_law;
 pub use stands::{file_fault_law, file_stands_law};
 pub use tree::{
     Body, Constant, Declarator, Extent, Fields, File, ForStart, Function, GlobalDeclarator, Item,
