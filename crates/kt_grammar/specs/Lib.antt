@@ -5,5 +5,6 @@ pub mod Marks
 pub mod Spelling
 pub mod Cursor
 pub mod Reading
+pub mod Heads
 pub mod Cut
 pub mod Laws

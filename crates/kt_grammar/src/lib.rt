@@ -2,15 +2,19 @@
 #![tactic(auto)]
 
 mod cursor;
+mod expr;
 mod fault;
+mod head;
 mod keyword;
 mod node;
 mod operator;
+mod postfix;
 mod sign;
 mod sign_of;
 mod symbol;
 mod tree;
 mod type_name;
+mod unary;
 mod word;
 
 pub use fault::Fault;
