@@ -14,7 +14,7 @@ fails_bind NoMemory m f h = tt
 fails_bind (Syntax n) m f h = rw h refl
 fails_bind (TooDeep n) m f h = rw h refl
 
-pub fails_err : {A B : Type 0} (e fault : Fault) → Fails {Y = A} e (Err fault) → Fails {Y = B} e (Err fault)
-fails_err NoMemory fault h = tt
-fails_err (Syntax n) fault h = let same : fault ≡ Syntax n = cc in rw same refl
-fails_err (TooDeep n) fault h = let same : fault ≡ TooDeep n = cc in rw same refl
+pub fails_err : (A B : Type 0) (e fault : Fault) → Fails {Y = A} e (Err fault) → Fails {Y = B} e (Err fault)
+fails_err A B NoMemory fault h = tt
+fails_err A B (Syntax n) fault h = let same : fault ≡ Syntax n = cc in rw same refl
+fails_err A B (TooDeep n) fault h = let same : fault ≡ TooDeep n = cc in rw same refl

@@ -10,8 +10,8 @@ use Rattle.kt_grammar.specs.declared.operator.BinaryOperator.{BinaryOperator}
 use Rattle.kt_grammar.specs.declared.postfix.PostfixOperator.{PostfixOperator}
 use Rattle.kt_grammar.specs.declared.tree.Expr.{Expr}
 use Rattle.kt_grammar.specs.Tree.{Term, Operated, term_of}
-use Rattle.kt_grammar.specs.Cursor.{◌>>=◌, Outcome, Fails, unexpected, begins_sign, listed_at}
-use Rattle.kt_grammar.specs.Reading.{Readers, deeper, binary_here, chain_at, tail_at, climb_at, level_at, unary_at, postfix_at, more_at}
+use Rattle.kt_grammar.specs.Cursor.{◌>>=◌, Outcome, Fails, begins_sign, behind, listed_at}
+use Rattle.kt_grammar.specs.Reading.{Readers, deeper, binary_here, assignment_at, choice_at, arguments_at, chain_at, tail_at, climb_at, level_at, unary_at, postfix_at, more_at}
 use Rattle.kt_grammar.specs.Heads.{postfix_here, once_at}
 use Rattle.kt_grammar.proofs.Binds.{fails_bind, fails_err}
 use Rattle.kt_grammar.proofs.Depths.{stuck, inner, deeper-zero, deep-zero, deep-some, more_at-zero, more_at-some, fails_so}
@@ -215,4 +215,31 @@ is_listed_not g depth items (s ∷ rest) symbols e h f =
     let lt : 0 < length (s ∷ rest) = omega arith in
     subst (Fails e) (sym (listed-step g depth items (s ∷ rest) symbols h lt)) (fails_bind e (item_at g depth (s ∷ rest)) _ f)
 is_listed_not g depth items [] symbols e h f =
-    subst (Fails e) (sym (h.same ∙ listed_at-nothing g depth (length symbols - length items) (map term_of items))) (fails_err e (Syntax 0) (subst (Fails e) (item_at-nothing g depth) f))
+    subst (Fails e) (sym (h.same ∙ listed_at-nothing g depth (length symbols - length items) (map term_of items))) (fails_err _ _ e (Syntax 0) (subst (Fails e) (item_at-nothing g depth) f))
+
+-- ---- single steps
+
+pub tail_at-0 : (g : Dialect) (r : Option Readers) (level : ℕ) (x : Term) (symbols : List Symbol) → level ≡ 0 → tail_at g r level x symbols ≡ assignment_at g r x symbols
+unfolding tail_at
+tail_at-0 g r level x symbols e = rw e refl
+
+pub tail_at-1 : (g : Dialect) (r : Option Readers) (level : ℕ) (x : Term) (symbols : List Symbol) → level ≡ 1 → tail_at g r level x symbols ≡ choice_at g r x symbols
+unfolding tail_at
+tail_at-1 g r level x symbols e = rw e refl
+
+pub tail_at-2 : (g : Dialect) (r : Option Readers) (level : ℕ) (x : Term) (symbols : List Symbol) → 2 ≤ level → tail_at g r level x symbols ≡ chain_at g r level x symbols
+unfolding tail_at
+tail_at-2 g r zero x symbols le = absurd (omega arith)
+tail_at-2 g r (suc zero) x symbols le = absurd (omega arith)
+tail_at-2 g r (suc (suc level)) x symbols le = refl
+
+pub arguments_at-zero : (g : Dialect) (depth : ℕ) (symbols : List Symbol) → begins_sign signs.CloseParenthesis symbols ≡ false → depth ≡ 0
+    → arguments_at g (deeper g depth) symbols ≡ Err (stuck g symbols)
+unfolding arguments_at
+arguments_at-zero g depth symbols b z = rw (b, deep-zero g depth (λ r. listed_at (r.level 0) (length symbols) []) symbols z) refl
+
+pub arguments_at-some : (g : Dialect) (depth : ℕ) (symbols : List Symbol) → begins_sign signs.CloseParenthesis symbols ≡ false → 0 < depth
+    → arguments_at g (deeper g depth) symbols
+    ≡ (listed_at (item_at g (depth - 1)) (length symbols) [] symbols >>= λ args. behind signs.CloseParenthesis args.1 >>= λ rest. Ok (args.0, rest))
+unfolding arguments_at
+arguments_at-some g depth symbols b lt = rw (b, deep-some g depth (λ r. listed_at (r.level 0) (length symbols) []) symbols lt) refl
