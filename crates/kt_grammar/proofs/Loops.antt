@@ -181,7 +181,7 @@ listed_at-step item (suc n) done symbols lt = let e : suc n - 1 ≡ n = omega ar
 listed-step : (g : Dialect) (depth : ℕ) (items : List Expr) (rest symbols : List Symbol) → IsListed g depth items rest symbols → 0 < length rest
     → listed_at (item_at g depth) (length symbols) [] symbols
     ≡ (item_at g depth rest >>= λ x. cond (begins_sign signs.Comma x.1)
-        (listed_at (item_at g depth) (length symbols - length items - 1) (map term_of items ++ x.0 ∷ []) (drop 1 x.1)) (Ok (map term_of items ++ x.0 ∷ [], x.1)))
+    (listed_at (item_at g depth) (length symbols - length items - 1) (map term_of items ++ x.0 ∷ []) (drop 1 x.1)) (Ok (map term_of items ++ x.0 ∷ [], x.1)))
 listed-step g depth items rest symbols h lt = h.same ∙ listed_at-step (item_at g depth) (length symbols - length items) (map term_of items) rest (omega (arith, h.fits))
 
 pub is_listed_whole : (g : Dialect) (depth : ℕ) (items more : List Expr) (x : Expr) (rest after symbols : List Symbol) → IsListed g depth items rest symbols

@@ -37,7 +37,7 @@ if_one_of index field arrow other = cond index (Some postfix.Index) (cond field 
 
 by_sign : (g : Dialect) (r : Option Readers) (x : Term) (symbols rest : List Symbol) (o : Option StepOperator) (index field arrow : Bool)
     → cond index (index_at g r x rest) (cond field (name_at rest >>= λ n. more_at g r (Member x n.0) n.1) (cond arrow (name_at rest >>= λ n. more_at g r (Pointed x n.0) n.1)
-        (elim o as (λ _. Outcome Term) [ None ↦ Ok (x, symbols) | (Some op) ↦ more_at g r (Stepped x op) rest ])))
+    (elim o as (λ _. Outcome Term) [ None ↦ Ok (x, symbols) | (Some op) ↦ more_at g r (Stepped x op) rest ])))
     ≡ on_with g r x symbols rest (if_one_of index field arrow (step_operator o))
 unfolding index_at once_at field_at arrow_at
 by_sign g r x symbols rest o true field arrow = sym (simp bind_assoc)
@@ -49,7 +49,7 @@ postfix_of-is : (g : Dialect) (s : Sign)
     → postfix_of g s ≡ if_one_of (same_sign s signs.OpenBracket) (same_sign s signs.Dot) (same_sign s signs.Arrow) (step_operator (step_of g s))
 unfolding postfix_of
 postfix_of-is g s = elim (step_of g s) as (λ o. if_one_of (same_sign s signs.OpenBracket) (same_sign s signs.Dot) (same_sign s signs.Arrow)
-        (elim o as (λ _. Option PostfixOperator) [ None ↦ None | (Some op) ↦ Some (postfix.Step op) ])
+    (elim o as (λ _. Option PostfixOperator) [ None ↦ None | (Some op) ↦ Some (postfix.Step op) ])
     ≡ if_one_of (same_sign s signs.OpenBracket) (same_sign s signs.Dot) (same_sign s signs.Arrow) (step_operator o))
     [ None ↦ refl | (Some op) ↦ refl ]
 

@@ -29,16 +29,16 @@ with_postfix g r read = read >>= λ x. postfix_at g r x.0 x.1
 by_name : (g : Dialect) (r : Option Readers) (n : Name) (symbols : List Symbol) → with_postfix g r (named_at g r n symbols) ≡ completed g r (name_head g n symbols)
 unfolding named_at name_head behind_head
 by_name g r n symbols = elim (is_c g && begins_sign signs.OpenParenthesis symbols) as (λ b.
-        with_postfix g r (cond b (arguments_at g r (drop 1 symbols) >>= λ args. Ok (Called n (terms_of args.0), args.1)) (Ok (Named n, symbols)))
-        ≡ completed g r (cond b (Ok (Calling n, drop 1 symbols)) (Ok (Whole (Named n), symbols))))
+    with_postfix g r (cond b (arguments_at g r (drop 1 symbols) >>= λ args. Ok (Called n (terms_of args.0), args.1)) (Ok (Named n, symbols)))
+    ≡ completed g r (cond b (Ok (Calling n, drop 1 symbols)) (Ok (Whole (Named n), symbols))))
     [ true ↦ bind_assoc (arguments_at g r (drop 1 symbols)) _ _ | false ↦ refl ]
 
 by_open : (g : Dialect) (r : Option Readers) (at : ℕ) (symbols : List Symbol) → parenthesis_at g r at symbols ≡ completed g r (open_head at symbols)
 unfolding parenthesis_at open_head behind_head
 by_open g r at symbols = elim (begins_base symbols) as (λ b.
-        cond b (type_at symbols >>= λ t. behind signs.CloseParenthesis t.1 >>= λ rest. deep_level g r 8 rest >>= λ a. Ok (Converted at t.0 a.0, a.1))
-            (deep_level g r 0 symbols >>= λ a. behind signs.CloseParenthesis a.1 >>= λ rest. postfix_at g r (Parenthesised at a.0) rest)
-        ≡ completed g r (cond b (type_at symbols >>= λ t. behind signs.CloseParenthesis t.1 >>= λ rest. Ok (Applying (Cast at t.0), rest)) (Ok (Opening (Parenthesis at), symbols))))
+    cond b (type_at symbols >>= λ t. behind signs.CloseParenthesis t.1 >>= λ rest. deep_level g r 8 rest >>= λ a. Ok (Converted at t.0 a.0, a.1))
+    (deep_level g r 0 symbols >>= λ a. behind signs.CloseParenthesis a.1 >>= λ rest. postfix_at g r (Parenthesised at a.0) rest)
+    ≡ completed g r (cond b (type_at symbols >>= λ t. behind signs.CloseParenthesis t.1 >>= λ rest. Ok (Applying (Cast at t.0), rest)) (Ok (Opening (Parenthesis at), symbols))))
     [ true ↦ sym (simp bind_assoc) | false ↦ refl ]
 
 by_prefix : (g : Dialect) (r : Option Readers) (at : ℕ) (o : Option PrefixOperator) (symbols rest : List Symbol) → prefixed_at g r at o symbols rest ≡ completed g r (prefix_head at o symbols rest)
@@ -58,8 +58,8 @@ by_sign : (g : Dialect) (r : Option Readers) (at : ℕ) (s : Sign) (rest : List 
     → unary_at g r (symbol.Sign at s ∷ rest) ≡ completed g r (sign_head g at s (symbol.Sign at s ∷ rest) rest)
 unfolding unary_at sign_head
 by_sign g r at s rest = elim (same_sign s signs.OpenParenthesis) as (λ b.
-        cond b (parenthesis_at g r at rest) (prefixed_at g r at (prefix_of g s) (symbol.Sign at s ∷ rest) rest)
-        ≡ completed g r (cond b (open_head at rest) (prefix_head at (prefix_of g s) (symbol.Sign at s ∷ rest) rest)))
+    cond b (parenthesis_at g r at rest) (prefixed_at g r at (prefix_of g s) (symbol.Sign at s ∷ rest) rest)
+    ≡ completed g r (cond b (open_head at rest) (prefix_head at (prefix_of g s) (symbol.Sign at s ∷ rest) rest)))
     [ true ↦ by_open g r at rest | false ↦ by_prefix g r at (prefix_of g s) (symbol.Sign at s ∷ rest) rest ]
 
 -- what only one kind of file has

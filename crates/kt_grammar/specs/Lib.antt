@@ -1,4 +1,5 @@
 pub mod Identifiers
+pub mod Symbols
 pub mod Tree
 pub mod Signs
 pub mod Marks

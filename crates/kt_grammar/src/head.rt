@@ -15,7 +15,7 @@ use super::sign::Sign;
 use super::sign_of::prefix_of;
 use super::symbol::Symbol;
 use super::tree::{Expr, Name, TypeName};
-use super::type_name::{begins_base, between, type_name};
+use super::types::{begins_base, between, type_name};
 use sqlite_items::Items;
 use std::alloc::{AllocError, Global};
 
@@ -113,7 +113,11 @@ fn prefix<'t>(
 
 /// The front of a unary expression.
 #[tactic(auto, unfolding(crate::specs::Heads::head_at))]
-pub(crate) fn front(alloc: Global, dialect: Dialect, symbols: &[Symbol]) -> Result<(Head, &[Symbol]), Fault>
+pub(crate) fn front(
+    alloc: Global,
+    dialect: Dialect,
+    symbols: &[Symbol],
+) -> Result<(Head, &[Symbol]), Fault>
     ensures read { Gives (λ x. (front_of x.0, x.1.now)) result (head_at dialect symbols.now) }
     ensures shorter { IfOk result (λ x. length x.1.now < length symbols.now) }
 {

@@ -7,8 +7,8 @@ ghost use Rattle.kt_grammar.specs.Reading.{deeper, more_at, postfix_at};
 ghost use Rattle.kt_grammar.specs.Heads.{postfix_of, postfix_here, field_at, arrow_at, once_at};
 
 use super::cursor::{behind, behind_first, name};
-use super::expr::deep;
 use super::fault::Fault;
+use super::levels::deep;
 use super::node::{element, member, pointed, stepped};
 use super::operator::{Dialect, StepOperator};
 use super::sign::Sign;

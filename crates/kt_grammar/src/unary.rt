@@ -7,9 +7,9 @@ ghost use Rattle.kt_grammar.specs.Reading.{deeper, level_at, arguments_at, unary
 ghost use Rattle.kt_grammar.specs.Heads.{front_of, behind_head};
 
 use super::cursor::{begins_sign, behind, behind_first};
-use super::expr::{deep, level, stuck};
 use super::fault::Fault;
 use super::head::{Head, apply, enclose, front};
+use super::levels::{deep, level, stuck};
 use super::node::called;
 use super::operator::Dialect;
 use super::postfix::postfix;

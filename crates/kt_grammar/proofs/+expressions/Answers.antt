@@ -9,67 +9,67 @@ use Rattle.kt_grammar.proofs.+expressions.Goals as goal
 
 -- ---- chain
 
-pub expr::chain-returns-then-depth-eq0-clause-read : goal.expr::chain-returns-then-depth-eq0-clause-read
-expr::chain-returns-then-depth-eq0-clause-read t c =
+pub levels::chain-returns-then-depth-eq0-clause-read : goal.levels::chain-returns-then-depth-eq0-clause-read
+levels::chain-returns-then-depth-eq0-clause-read t c =
     is_chained_stuck _ _ _ _ _ _ _ _ _ _ c.loop-operator.invariant (sym c.in-Some.ensures) c.if-depth-eq0.true (rw c.behind_first-right.ensures.value at c.stuck.ensures)
 
-pub expr::chain-returns-in_err-y-clause-read : goal.expr::chain-returns-in_err-y-clause-read
-expr::chain-returns-in_err-y-clause-read t c =
+pub levels::chain-returns-in_err-y-clause-read : goal.levels::chain-returns-in_err-y-clause-read
+levels::chain-returns-in_err-y-clause-read t c =
     let p = err_from_is_err_and c.from_residual.result c.from_residual.ensures.1 in
     let lt : 0 < c.loop-operator.depth = omega (arith, c.if-depth-eq0.false) in
     rw (p.1, p.2) (is_chained_not _ _ _ _ _ _ _ _ _ _ _ c.loop-operator.invariant (sym c.in-Some.ensures) lt (omega arith) (rw c.behind_first-right.ensures.value at c.in_err-y.ensures.read))
 
-pub expr::chain-loop-operator-preserved : goal.expr::chain-loop-operator-preserved
-expr::chain-loop-operator-preserved t c =
+pub levels::chain-loop-operator-preserved : goal.levels::chain-loop-operator-preserved
+levels::chain-loop-operator-preserved t c =
     let lt : 0 < c.loop-operator.depth = omega (arith, c.if-depth-eq0.false) in
     is_chained_more _ _ _ _ _ c.in_ok-y.y _ _ _ _ _ _ _ c.loop-operator.invariant (sym c.in-Some.ensures) lt (omega arith) (rw c.behind_first-right.ensures.value at c.in_ok-y.ensures.read)
     (omega (arith, c.in_ok-y.ensures.shorter, c.behind_first-right.ensures.shorter)) c.in_ok-x.ensures
 
-pub expr::chain-returns-clause-read : goal.expr::chain-returns-clause-read
-expr::chain-returns-clause-read t c = is_chained_whole _ _ _ _ _ _ _ _ c.loop-operator.invariant (sym c.in_default.ensures)
+pub levels::chain-returns-clause-read : goal.levels::chain-returns-clause-read
+levels::chain-returns-clause-read t c = is_chained_whole _ _ _ _ _ _ _ _ c.loop-operator.invariant (sym c.in_default.ensures)
 
 -- ---- deep
 
-pub expr::deep-returns-then-depth-eq0-clause-read : goal.expr::deep-returns-then-depth-eq0-clause-read
-expr::deep-returns-then-depth-eq0-clause-read t c =
+pub levels::deep-returns-then-depth-eq0-clause-read : goal.levels::deep-returns-then-depth-eq0-clause-read
+levels::deep-returns-then-depth-eq0-clause-read t c =
     fails_so _ _ (deep-zero c.args.dialect c.args.depth (λ r. r.level c.args.least) c.args.symbols.now c.if-depth-eq0.true ∙ ap (λ (e : Fault). Err e) (sym c.stuck.ensures))
 
-pub expr::deep-returns-clause-read : goal.expr::deep-returns-clause-read
-expr::deep-returns-clause-read t c =
+pub levels::deep-returns-clause-read : goal.levels::deep-returns-clause-read
+levels::deep-returns-clause-read t c =
     rw (deep-some c.args.dialect c.args.depth (λ r. r.level c.args.least) c.args.symbols.now (omega (arith, c.if-depth-eq0.false))) c.level.ensures.read
 
 -- ---- level
 
-pub expr::level-returns-in_err-x-clause-read : goal.expr::level-returns-in_err-x-clause-read
-expr::level-returns-in_err-x-clause-read t c =
+pub levels::level-returns-in_err-x-clause-read : goal.levels::level-returns-in_err-x-clause-read
+levels::level-returns-in_err-x-clause-read t c =
     let p = err_from_is_err_and c.from_residual.result c.from_residual.ensures.1 in
     rw (p.1, p.2) (level_at-not _ _ _ _ _ c.in_err-x.ensures.read)
 
-pub expr::level-loop-above-init : goal.expr::level-loop-above-init
-expr::level-loop-above-init t c = is_climbed_start _ _ _ _ _ _ c.in_ok-x.ensures.read c.in_ok-x.ensures.shorter
+pub levels::level-loop-above-init : goal.levels::level-loop-above-init
+levels::level-loop-above-init t c = is_climbed_start _ _ _ _ _ _ c.in_ok-x.ensures.read c.in_ok-x.ensures.shorter
 
-pub expr::level-returns-in_err-y-clause-read : goal.expr::level-returns-in_err-y-clause-read
-expr::level-returns-in_err-y-clause-read t c =
+pub levels::level-returns-in_err-y-clause-read : goal.levels::level-returns-in_err-y-clause-read
+levels::level-returns-in_err-y-clause-read t c =
     let p = err_from_is_err_and c.from_residual-in_err-y.result c.from_residual-in_err-y.ensures.1 in
     rw (p.1, p.2) (is_climbed_not _ _ _ _ _ _ _ _ _ c.loop-above.invariant c.loop-above-test.true refl c.in_err-y.ensures.read)
 
-pub expr::level-loop-above-preserved : goal.expr::level-loop-above-preserved
-expr::level-loop-above-preserved t c =
+pub levels::level-loop-above-preserved : goal.levels::level-loop-above-preserved
+levels::level-loop-above-preserved t c =
     is_climbed_more _ _ _ _ _ _ _ _ _ _ c.loop-above.invariant c.loop-above-test.true refl c.in_ok-y.ensures.read c.in_ok-y.ensures.shorter
 
-pub expr::level-returns-clause-read : goal.expr::level-returns-clause-read
-expr::level-returns-clause-read t c = is_climbed_whole _ _ _ _ _ _ _ c.loop-above.invariant c.loop-above-test.false
+pub levels::level-returns-clause-read : goal.levels::level-returns-clause-read
+levels::level-returns-clause-read t c = is_climbed_whole _ _ _ _ _ _ _ c.loop-above.invariant c.loop-above-test.false
 
 -- ---- tail
 
-pub expr::tail-returns-in-0-clause-read : goal.expr::tail-returns-in-0-clause-read
-expr::tail-returns-in-0-clause-read t c = rw (tail_at-0 _ _ c.args.level _ _ c.in-0.is) c.assignment.ensures.read
+pub levels::tail-returns-in-0-clause-read : goal.levels::tail-returns-in-0-clause-read
+levels::tail-returns-in-0-clause-read t c = rw (tail_at-0 _ _ c.args.level _ _ c.in-0.is) c.assignment.ensures.read
 
-pub expr::tail-returns-in-1-clause-read : goal.expr::tail-returns-in-1-clause-read
-expr::tail-returns-in-1-clause-read t c = rw (tail_at-1 _ _ c.args.level _ _ c.in-1.is) c.choice.ensures.read
+pub levels::tail-returns-in-1-clause-read : goal.levels::tail-returns-in-1-clause-read
+levels::tail-returns-in-1-clause-read t c = rw (tail_at-1 _ _ c.args.level _ _ c.in-1.is) c.choice.ensures.read
 
-pub expr::tail-returns-in_default-clause-read : goal.expr::tail-returns-in_default-clause-read
-expr::tail-returns-in_default-clause-read t c = rw (tail_at-2 _ _ c.args.level _ _ (omega arith)) c.chain.ensures.read
+pub levels::tail-returns-in_default-clause-read : goal.levels::tail-returns-in_default-clause-read
+levels::tail-returns-in_default-clause-read t c = rw (tail_at-2 _ _ c.args.level _ _ (omega arith)) c.chain.ensures.read
 
 -- ---- postfix
 
