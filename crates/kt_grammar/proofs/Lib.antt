@@ -4,3 +4,4 @@ pub mod Unaries
 pub mod Postfixes
 pub mod Depths
 pub mod Loops
+pub mod Words

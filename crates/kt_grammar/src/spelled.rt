@@ -1,8 +1,11 @@
 //! Which keyword, rule word or sign bytes spell, and whether they are an identifier.
 
-ghost use Rattle.std.specs.Prelude.{◌≡◌};
+ghost use Rattle.std.specs.Prelude.{◌≡◌, ◌&&◌, not};
+ghost use Rattle.std.specs.Char.{is_ascii_digit};
+ghost use Rattle.std.specs.List.{list_all};
 ghost use Rattle.std.specs.Str.{bytes_eq};
 ghost use Rattle.kt_lex.specs.Bytes.{is_word_byte};
+ghost use Rattle.kt_lex.specs.Words.{is_among, keywords};
 ghost use Rattle.kt_grammar.specs.Identifiers.{is_identifier};
 ghost use Rattle.kt_grammar.specs.Symbols.{or_else, type_keyword, statement_keyword, other_keyword, keyword_of, rule_word_of, bracket_of, operator_of, before_equal, doubled, sign_of_two, sign_of};
 
@@ -128,17 +131,39 @@ fn is_word_byte(byte: u8) -> bool
     byte.is_ascii_alphanumeric() || byte == b'_'
 }
 
+fn are_word_bytes(word: &[u8]) -> bool
+    ensures { result ≡ list_all is_word_byte word.now }
+{
+    word.iter().all(|byte| is_word_byte(*byte))
+}
+
+#[tactic(auto, using(crate::proofs::Words::words))]
+fn is_known(word: &[u8]) -> bool
+    ensures { result ≡ is_among keywords word.now }
+{
+    keyword_of(word).is_some()
+}
+
+/// Whether a word that begins with this byte is an identifier.
+fn is_word(first: u8, word: &[u8]) -> bool
+    ensures { result ≡ (not (is_ascii_digit first) && list_all is_word_byte word.now && not (is_among keywords word.now)) }
+{
+    if first.is_ascii_digit() {
+        return false;
+    }
+    if !are_word_bytes(word) {
+        return false;
+    }
+    !is_known(word)
+}
+
 /// Whether the bytes are an identifier.
 pub(crate) fn is_identifier(word: &[u8]) -> bool
     ensures { result ≡ is_identifier word.now }
 {
     match word {
         [] => false,
-        [first, ..] => {
-            !first.is_ascii_digit()
-                && word.iter().all(|byte| is_word_byte(*byte))
-                && keyword_of(word).is_none()
-        }
+        [first, ..] => is_word(*first, word),
     }
 }
 

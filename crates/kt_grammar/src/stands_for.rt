@@ -1,6 +1,6 @@
 //! The symbols of tokens.
 
-ghost use Rattle.std.specs.Prelude.{◌≡◌, IfOk};
+ghost use Rattle.std.specs.Prelude.{◌≡◌, IfOk, if◌then◌else◌};
 ghost use Rattle.kt_lex.specs.Quotes.{string_value};
 ghost use Rattle.kt_grammar.specs.Identifiers.{is_identifier};
 ghost use Rattle.kt_grammar.specs.Symbols.{spelling_of, or_other, spelled, symbol_of, symbols_of_tokens};
