@@ -1,13 +1,12 @@
 -- How much may be opened, one deeper.
-use Rattle.std.proofs.Common.{◌≡◌, ℕ, zero, suc, ◌-◌, ◌<◌, ◌≢◌, Bool, true, false, cond, List, length, drop, Option, Some, None, Result, Ok, Err, refl, arith}
+use Rattle.std.proofs.Common.{◌≡◌, ℕ, zero, suc, ◌-◌, ◌<◌, Bool, true, false, cond, List, length, Some, None, Result, Err, refl, arith}
 use Rattle.kt_grammar.specs.declared.fault.Fault.{Fault}
 use Rattle.kt_grammar.specs.declared.fault.Fault.TheVariants.{Syntax, TooDeep, NoMemory}
 use Rattle.kt_grammar.specs.declared.symbol.Symbol.{Symbol}
 use Rattle.kt_grammar.specs.declared.operator.Dialect.{Dialect}
-use Rattle.kt_grammar.specs.declared.operator.BinaryOperator.{BinaryOperator}
-use Rattle.kt_grammar.specs.Tree.{Term, Operated, Element}
-use Rattle.kt_grammar.specs.Cursor.{◌>>=◌, Outcome, Fails}
-use Rattle.kt_grammar.specs.Reading.{Readers, begins_expr, begins_postfix, deep, deep_level, more_at, postfix_at, binary_here, chain_at, level_at, deeper}
+use Rattle.kt_grammar.specs.Tree.{Term}
+use Rattle.kt_grammar.specs.Cursor.{Fails}
+use Rattle.kt_grammar.specs.Reading.{Readers, begins_expr, deep, more_at, postfix_at, chain_at, level_at, deeper}
 
 -- the fault of an expression that would be opened too deep
 abbrev pub stuck : Dialect → List Symbol → Fault

@@ -1,5 +1,5 @@
 -- What the loops keep: reading from where they stand gives what reading from the start gives.
-use Rattle.std.proofs.Common.{◌≡◌, ℕ, zero, suc, ◌+◌, ◌-◌, ◌<◌, ◌≤◌, Bool, true, false, cond, List, [], ◌∷◌, ◌++◌, length, drop, map, Option, Some, None, Ok, Err, refl, sym, ap, subst, ◌∙◌, arith}
+use Rattle.std.proofs.Common.{◌≡◌, ℕ, zero, suc, ◌+◌, ◌-◌, ◌<◌, ◌≤◌, true, false, cond, List, [], ◌∷◌, ◌++◌, length, drop, map, Option, Some, None, Ok, Err, refl, sym, ap, subst, ◌∙◌, arith}
 use Rattle.std.proofs.lemmas.List.{length-append, map-append}
 use Rattle.kt_grammar.specs.declared.fault.Fault.{Fault}
 use Rattle.kt_grammar.specs.declared.fault.Fault.TheVariants.{Syntax}
@@ -14,7 +14,7 @@ use Rattle.kt_grammar.specs.Cursor.{◌>>=◌, Outcome, Fails, begins_sign, behi
 use Rattle.kt_grammar.specs.Reading.{Readers, deeper, binary_here, assignment_at, choice_at, arguments_at, chain_at, tail_at, climb_at, level_at, unary_at, postfix_at, more_at}
 use Rattle.kt_grammar.specs.Heads.{postfix_here, once_at}
 use Rattle.kt_grammar.proofs.Binds.{fails_bind, fails_err}
-use Rattle.kt_grammar.proofs.Depths.{stuck, inner, deeper-zero, deep-zero, deep-some, more_at-zero, more_at-some, fails_so}
+use Rattle.kt_grammar.proofs.Depths.{stuck, deep-zero, deep-some, more_at-zero, more_at-some, fails_so}
 use Rattle.kt_grammar.proofs.Postfixes.{postfix_at-none, postfix_at-some}
 
 -- ---- levels

@@ -1,5 +1,5 @@
 -- What an expression is as plain data, made of its parts.
-use Rattle.std.proofs.Common.{◌≡◌, ℕ, List, [], ◌∷◌, map, refl, ap, ◌∙◌}
+use Rattle.std.proofs.Common.{◌≡◌, ℕ, List, map, refl, ap, ◌∙◌}
 use denote.Hole.Carrier.{hidden}
 use mathlib.Core.Former.{Count}
 use Rattle.kt_grammar.specs.declared.operator.PrefixOperator.{PrefixOperator}
@@ -11,7 +11,7 @@ use Rattle.kt_grammar.specs.declared.tree.TypeName.{TypeName}
 use Rattle.kt_grammar.specs.declared.tree.Expr.TheBlock.{hidden-the_row-Expr-1}
 use Rattle.kt_grammar.specs.declared.tree.Expr.{Expr, Call, Call', Row_of-Expr, end_of-Expr, more_of-Expr, items-the_row-Expr, items_hidden-the_row-Expr-0}
 use Rattle.kt_grammar.specs.declared.tree.Expr.TheVariants as expr
-use Rattle.kt_grammar.specs.Tree.{Term, Called, Parenthesised, Transformed, Element, Member, Pointed, Stepped, Prefixed, Converted, Operated, Chosen, Assigned, More, term_of, terms_of, terms_of_row}
+use Rattle.kt_grammar.specs.Tree.{Called, Parenthesised, Transformed, Element, Member, Pointed, Stepped, Prefixed, Converted, Operated, Chosen, Assigned, More, term_of, terms_of, terms_of_row}
 
 pub parenthesised-is : (at : ℕ) (a : Expr) → term_of (expr.Paren at a) ≡ Parenthesised at (term_of a)
 unfolding hidden-the_row-Expr-1 hidden

@@ -1,5 +1,5 @@
 -- Postfix operators are read one by one.
-use Rattle.std.proofs.Common.{◌≡◌, ℕ, Bool, true, false, ◌||◌, cond, List, [], ◌∷◌, length, drop, Option, Some, None, Ok, Err, refl, sym, ◌∙◌}
+use Rattle.std.proofs.Common.{◌≡◌, Bool, true, false, ◌||◌, cond, List, [], ◌∷◌, length, drop, Option, Some, None, Ok, Err, refl, sym, ◌∙◌}
 use Rattle.std.specs.Option.{is_some}
 use Rattle.kt_grammar.specs.declared.fault.Fault.TheVariants.{TooDeep}
 use Rattle.kt_grammar.specs.declared.sign.Sign.{Sign}
@@ -10,10 +10,10 @@ use Rattle.kt_grammar.specs.declared.operator.Dialect.{Dialect}
 use Rattle.kt_grammar.specs.declared.operator.StepOperator.{StepOperator}
 use Rattle.kt_grammar.specs.declared.postfix.PostfixOperator.{PostfixOperator}
 use Rattle.kt_grammar.specs.declared.postfix.PostfixOperator.TheVariants as postfix
-use Rattle.kt_grammar.specs.Tree.{Term, Element, Member, Pointed, Stepped}
+use Rattle.kt_grammar.specs.Tree.{Term, Member, Pointed, Stepped}
 use Rattle.kt_grammar.specs.Signs.{same_sign, step_of}
-use Rattle.kt_grammar.specs.Cursor.{◌>>=◌, Outcome, behind, name_at}
-use Rattle.kt_grammar.specs.Reading.{Readers, begins_postfix, deep_level, more_at, index_at, stepped_at, postfix_at}
+use Rattle.kt_grammar.specs.Cursor.{◌>>=◌, Outcome, name_at}
+use Rattle.kt_grammar.specs.Reading.{Readers, begins_postfix, more_at, index_at, stepped_at, postfix_at}
 use Rattle.kt_grammar.specs.Heads.{postfix_of, postfix_here, field_at, arrow_at, once_at}
 use Rattle.kt_grammar.proofs.Binds.{bind_assoc}
 

@@ -1,5 +1,5 @@
 -- A unary expression is its front and what stands behind that.
-use Rattle.std.proofs.Common.{◌≡◌, ℕ, Bool, true, false, ◌&&◌, cond, List, [], ◌∷◌, drop, Option, Some, None, Ok, refl, sym, ap}
+use Rattle.std.proofs.Common.{◌≡◌, ℕ, Bool, true, false, ◌&&◌, cond, List, [], ◌∷◌, drop, Option, Some, None, Ok, refl, sym}
 use Rattle.kt_grammar.specs.declared.keyword.Keyword.TheVariants as keywords
 use Rattle.kt_grammar.specs.declared.keyword.RuleWord.{RuleWord}
 use Rattle.kt_grammar.specs.declared.keyword.RuleWord.TheVariants as rule
@@ -10,11 +10,11 @@ use Rattle.kt_grammar.specs.declared.symbol.Symbol.TheVariants as symbol
 use Rattle.kt_grammar.specs.declared.operator.Dialect.{Dialect}
 use Rattle.kt_grammar.specs.declared.operator.PrefixOperator.{PrefixOperator}
 use Rattle.kt_grammar.specs.declared.tree.Name.{Name}
-use Rattle.kt_grammar.specs.declared.head.Enclosing.TheVariants.{Parenthesis, Transform}
-use Rattle.kt_grammar.specs.declared.head.Prefixing.TheVariants.{Prefix, Cast}
-use Rattle.kt_grammar.specs.Tree.{Term, Named, Called, SizeOf, Converted, Transformed, Parenthesised, OldSymbol, terms_of}
+use Rattle.kt_grammar.specs.declared.head.Enclosing.TheVariants.{Parenthesis}
+use Rattle.kt_grammar.specs.declared.head.Prefixing.TheVariants.{Cast}
+use Rattle.kt_grammar.specs.Tree.{Term, Named, Called, SizeOf, Converted, Parenthesised, terms_of}
 use Rattle.kt_grammar.specs.Signs.{is_c, same_sign, prefix_of}
-use Rattle.kt_grammar.specs.Cursor.{◌>>=◌, Outcome, unexpected, begins_sign, behind, name_at}
+use Rattle.kt_grammar.specs.Cursor.{◌>>=◌, Outcome, unexpected, begins_sign, behind}
 use Rattle.kt_grammar.specs.Reading.{Readers, begins_base, type_at, between_at, deep_level, postfix_at, arguments_at, named_at, old_symbol_at, transform_at, rule_at, primary_at, parenthesis_at, prefixed_at, unary_at}
 use Rattle.kt_grammar.specs.Heads.{Front, Whole, Calling, Opening, Applying, name_head, open_head, prefix_head, rule_head, sign_head, head_at, behind_head}
 use Rattle.kt_grammar.proofs.Binds.{bind_assoc}

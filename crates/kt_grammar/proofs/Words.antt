@@ -1,8 +1,7 @@
 -- The words that are keywords are those of the lexer.
-use Rattle.std.proofs.Common.{◌≡◌, ℕ, Bool, true, false, ◌||◌, cond, List, [], ◌∷◌, Option, Some, None, refl}
+use Rattle.std.proofs.Common.{◌≡◌, ℕ, Bool, true, false, ◌||◌, cond, List, Option, Some, refl}
 use Rattle.std.specs.Prelude.{codes}
 use Rattle.std.specs.Option.{is_some}
-use Rattle.std.specs.List.{list_any}
 use Rattle.std.specs.Str.{bytes_eq}
 use Rattle.kt_lex.specs.Words.{is_among, keywords}
 use Rattle.kt_grammar.specs.declared.keyword.Keyword.{Keyword}

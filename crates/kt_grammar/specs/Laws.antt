@@ -1,19 +1,16 @@
 -- What is read is what is spelled: the laws of reading expressions.
-use Rattle.std.specs.Prelude.{◌≡◌, ℕ, zero, suc, ◌+◌, ◌≤◌, true, List, [], ◌∷◌, ◌++◌, Ok, Some, None, Option, if◌then◌else◌, ◌||◌}
+use Rattle.std.specs.Prelude.{◌≡◌, ℕ, ◌+◌, true, List, ◌∷◌, ◌++◌, Ok, Some, None, if◌then◌else◌}
 use Rattle.std.specs.Option.{is_some}
 use Rattle.kt_grammar.specs.declared.operator.Dialect.{Dialect}
 use Rattle.kt_grammar.specs.declared.sign.Sign.{Sign}
 use Rattle.kt_grammar.specs.declared.sign.Sign.TheVariants as signs
 use Rattle.kt_grammar.specs.declared.symbol.Symbol.{Symbol}
 use Rattle.kt_grammar.specs.declared.symbol.Symbol.TheVariants as symbol
-use Rattle.kt_grammar.specs.declared.tree.Base.{Base}
-use Rattle.kt_grammar.specs.declared.tree.TypeName.{TypeName}
 use Rattle.kt_grammar.specs.Tree.{Term}
 use Rattle.kt_grammar.specs.Signs.{same_sign, precedence, assign_of, binary_of}
 use Rattle.kt_grammar.specs.Marks.{Mark, symbols_of, IsShallow}
-use Rattle.kt_grammar.specs.Spelling.{spells, spells_base, spells_type}
-use Rattle.kt_grammar.specs.Cursor.{Outcome, begins_sign}
-use Rattle.kt_grammar.specs.Reading.{begins_base, begins_expr, begins_postfix, base_at, expr_at}
+use Rattle.kt_grammar.specs.Spelling.{spells}
+use Rattle.kt_grammar.specs.Reading.{begins_expr, begins_postfix, expr_at}
 use Rattle.kt_grammar.specs.Cut.{cut}
 
 -- the level that an expression needs to be the left operand of a binary operator; 0 where the sign is none

@@ -1,9 +1,8 @@
 -- Expressions at the front of a list of symbols, with so many more constructs that may be opened.
-use Rattle.std.specs.Prelude.{◌≡◌, ℕ, zero, suc, ◌+◌, ◌-◌, ◌==◌, ◌&&◌, ◌||◌, not, Bool, true, false, List, [], ◌∷◌, ◌++◌, length, drop, Option, Some, None, Result, Ok, Err, if◌then◌else◌}
+use Rattle.std.specs.Prelude.{ℕ, zero, suc, ◌+◌, ◌-◌, ◌==◌, ◌&&◌, ◌||◌, not, Bool, true, false, List, [], ◌∷◌, length, drop, Option, Some, None, Result, Ok, Err, if◌then◌else◌}
 use Rattle.std.specs.Option.{is_some}
 use Rattle.kt_grammar.specs.declared.fault.Fault.{Fault}
-use Rattle.kt_grammar.specs.declared.fault.Fault.TheVariants.{Syntax, TooDeep}
-use Rattle.kt_grammar.specs.declared.keyword.Keyword.{Keyword}
+use Rattle.kt_grammar.specs.declared.fault.Fault.TheVariants.{TooDeep}
 use Rattle.kt_grammar.specs.declared.keyword.Keyword.TheVariants as keywords
 use Rattle.kt_grammar.specs.declared.keyword.RuleWord.{RuleWord}
 use Rattle.kt_grammar.specs.declared.keyword.RuleWord.TheVariants as rule
@@ -21,7 +20,6 @@ use Rattle.kt_grammar.specs.declared.tree.Base.TheVariants as base
 use Rattle.kt_grammar.specs.declared.tree.TypeName.{TypeName}
 use Rattle.kt_grammar.specs.Tree.{Term, Constant, Character, Text, Null, Eof, Named, Called, Parenthesised, SizeOf, RuleValue, OldSymbol, Transformed, Element, Member, Pointed, Stepped, Prefixed, Converted, Operated, Chosen, Assigned, terms_of}
 use Rattle.kt_grammar.specs.Signs.{is_c, same_sign, precedence, prefix_of, step_of, binary_of, assign_of}
-use Rattle.kt_grammar.specs.Spelling.{is_value}
 use Rattle.kt_grammar.specs.Cursor.{◌>>=◌, Outcome, unexpected, begins_sign, behind, name_at, count_sign, listed_at}
 
 -- ---- types

@@ -1,5 +1,5 @@
 -- What the tokens of a text stand for.
-use Rattle.std.specs.Prelude.{ℕ, ◌-◌, ◌==◌, ◌&&◌, Bool, List, [], ◌∷◌, take, drop, map, codes, Option, Some, None, if◌then◌else◌}
+use Rattle.std.specs.Prelude.{ℕ, ◌-◌, ◌==◌, ◌&&◌, List, [], ◌∷◌, take, drop, map, codes, Option, Some, None, if◌then◌else◌}
 use Rattle.std.specs.Str.{bytes_eq}
 use Rattle.kt_lex.specs.declared.token.Kind.{Kind}
 use Rattle.kt_lex.specs.declared.token.Kind.TheVariants as kind

@@ -14,6 +14,8 @@ mod sign_of;
 mod spelled;
 mod stands_for;
 mod symbol;
+#[cfg(test)]
+mod tests;
 mod tree;
 mod types;
 mod unary;

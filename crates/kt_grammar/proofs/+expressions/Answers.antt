@@ -1,10 +1,10 @@
-use Rattle.std.proofs.Common.{◌≡◌, ℕ, ◌<◌, Err, refl, sym, ap, ◌∙◌, arith}
+use Rattle.std.proofs.Common.{◌<◌, Err, refl, sym, ap, ◌∙◌, arith}
 use Rattle.std.proofs.lemmas.Result.{err_from_is_err_and}
 use Rattle.kt_grammar.specs.declared.fault.Fault.{Fault}
 use Rattle.kt_grammar.proofs.Binds.{fails_bind}
 use Rattle.kt_grammar.proofs.Depths.{fails_so, deep-zero, deep-some}
 use Rattle.kt_grammar.proofs.Unaries.{unary_at-by_head}
-use Rattle.kt_grammar.proofs.Loops.{level_at-not, is_climbed_start, is_climbed_more, is_climbed_not, is_climbed_whole, is_chained_whole, is_chained_stuck, is_chained_not, is_chained_more, is_postfixed_whole, is_postfixed_not, is_postfixed_last, is_postfixed_more, is_listed_start, is_listed_whole, is_listed_more, is_listed_not, tail_at-0, tail_at-1, tail_at-2, arguments_at-zero, arguments_at-some}
+use Rattle.kt_grammar.proofs.Loops.{level_at-not, is_climbed_start, is_climbed_more, is_climbed_not, is_climbed_whole, is_chained_whole, is_chained_stuck, is_chained_not, is_chained_more, is_postfixed_whole, is_postfixed_not, is_postfixed_last, is_postfixed_more, is_listed_more, is_listed_not, tail_at-0, tail_at-1, tail_at-2, arguments_at-zero, arguments_at-some}
 use Rattle.kt_grammar.proofs.+expressions.Goals as goal
 
 -- ---- chain
