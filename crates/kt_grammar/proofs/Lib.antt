@@ -6,3 +6,10 @@ pub mod ExprFaults
 pub mod ExprStands
 pub mod ExprLocal
 mod Operators
+pub mod Nodes
+pub mod Binds
+pub mod Unaries
+pub mod Postfixes
+pub mod Depths
+pub mod Loops
+pub mod Words

@@ -1,24 +1,41 @@
 //! What C files and rule files share: symbols, expressions, and reading them from the left.
 #![tactic(auto)]
 
+mod cursor;
 mod fault;
+mod head;
 mod keyword;
 mod laws;
+mod levels;
 mod local;
+mod node;
 mod operator;
+mod postfix;
 mod sign;
+mod sign_of;
+mod spelled;
 mod stands;
+mod stands_for;
 mod symbol;
+#[cfg(test)]
+mod tests;
 mod tree;
+mod types;
+mod unary;
 mod word;
 
+pub use cursor::{begins_sign, behind, behind_first, count_sign, name};
 pub use fault::Fault;
 pub use keyword::{Keyword, RuleWord};
 pub use laws::expr_laws;
+pub use levels::{begins_expr, expr, stuck};
 pub use local::expr_local_law;
 pub use operator::{AssignOperator, BinaryOperator, Dialect, PrefixOperator, StepOperator};
 pub use sign::Sign;
+pub use sign_of::{assign_of, binary_of, precedence, prefix_of, step_of};
 pub use stands::{expr_fault_law, expr_goes_on_law, expr_stands_law};
+pub use stands_for::symbols;
 pub use symbol::Symbol;
 pub use tree::{Base, Expr, Name, TypeName};
+pub use types::{base, begins_base, type_name};
 pub use word::Word;
