@@ -1,5 +1,5 @@
 -- What is read is what is spelled: the laws of reading expressions.
-use Rattle.std.specs.Prelude.{◌≡◌, ℕ, ◌+◌, ◌≤◌, ◌<◌, true, List, [], ◌∷◌, ◌++◌, length, Ok, Err, Some, None, if◌then◌else◌, ◌&&◌}
+use Rattle.std.specs.Prelude.{◌≡◌, ℕ, ◌+◌, ◌≤◌, ◌<◌, true, List, ◌∷◌, ◌++◌, length, Ok, Err, Some, None, if◌then◌else◌, ◌&&◌}
 use Rattle.std.specs.Option.{is_some}
 use Rattle.kt_grammar.specs.declared.fault.Fault.{Fault}
 use Rattle.kt_grammar.specs.declared.fault.Fault.TheVariants.{Syntax, TooDeep, NoMemory}
