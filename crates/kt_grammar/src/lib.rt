@@ -1,12 +1,16 @@
 //! What C files and rule files share: symbols, expressions, and reading them from the left.
 #![tactic(auto)]
 
+mod cursor;
 mod fault;
 mod keyword;
+mod node;
 mod operator;
 mod sign;
+mod sign_of;
 mod symbol;
 mod tree;
+mod type_name;
 mod word;
 
 pub use fault::Fault;

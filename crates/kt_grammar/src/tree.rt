@@ -25,7 +25,7 @@ pub enum Base {
 #[derive(Debug, Drop)]
 pub struct TypeName {
     pub base: Base,
-    pub stars: u32,
+    pub stars: usize,
 }
 
 /// An expression (ISO/IEC 9899:2011, 6.5). The number is the place of its first token, where no part of it begins there.

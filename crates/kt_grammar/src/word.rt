@@ -1,14 +1,12 @@
-ghost use Rattle.std.specs.Prelude.{◌≡◌, true, false, IfSome, IfOk, MatchOption};
-ghost use Rattle.kt_grammar.specs.Identifiers.{is_identifier};
+ghost use Rattle.std.specs.Prelude.{◌≡◌};
 
-use sqlite_items::Items;
-use std::alloc::{AllocError, Global};
+use std::alloc::AllocError;
 use std::marker::Model;
 
 /// An identifier: a letter or underscore, then letters, digits and underscores, and no keyword (ISO/IEC 9899:2011, 6.4.2).
 #[derive(Debug, Drop)]
 pub struct Word {
-    bytes: Items<u8>,
+    bytes: Vec<u8>,
 }
 
 impl Model for Word {
@@ -20,9 +18,9 @@ impl Model for Word {
 
     ghost coded = { coded_list coded_ℕ };
 
-    ghost view = { λ w. w.bytes };
+    ghost view = { λ w. w.bytes.items };
 
-    ghost invariant = { λ w. is_identifier w.bytes ≡ true };
+    ghost invariant = { λ w. is_identifier w.bytes.items ≡ true };
 }
 
 impl Word {
@@ -31,5 +29,15 @@ impl Word {
         ensures { result.now ≡ self.now }
     {
         self.bytes.as_slice()
+    }
+}
+
+impl Clone for Word {
+    ghost is_clone = { λ a b. b ≡ a };
+
+    fn clone(&self) -> Result<Word, AllocError> {
+        Ok(Word {
+            bytes: self.bytes.clone()?,
+        })
     }
 }
