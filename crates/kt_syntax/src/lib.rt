@@ -1,6 +1,16 @@
 //! The grammar of C files and its parser.
 #![tactic(auto)]
 
+mod constant;
+mod declarator;
+mod external;
+mod function;
+mod global;
+mod head;
+mod local;
+mod node;
+mod pointer;
+mod statement;
 mod tree;
 
 pub use tree::{

@@ -1,0 +1,4 @@
+mod Deep
+mod Ends
+mod Lists
+mod Nodes

@@ -1,0 +1,12 @@
+use Rattle.std.proofs.Common.{[], length, map}
+use Rattle.kt_grammar.specs.Cursor.{until_at}
+use Rattle.kt_syntax.specs.Tree.{external_of}
+use Rattle.kt_syntax.specs.Reading.{external_at, is_end}
+use Rattle.kt_syntax.proofs.Lists.{IsUnderWay}
+use Rattle.kt_syntax.proofs.external.externals.Given as goal
+
+abbrev pub invariant-loop-alloc : goal.invariant-loop-alloc
+invariant-loop-alloc l = IsUnderWay (until_at is_end (external_at l.depth)) (until_at is_end (external_at l.depth) (length l.symbols) [] l.symbols) (map external_of l.done) l.rest
+
+abbrev pub decreases-loop-alloc : goal.decreases-loop-alloc
+decreases-loop-alloc l = length l.rest
