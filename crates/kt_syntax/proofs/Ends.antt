@@ -1,5 +1,5 @@
 -- Nothing is read where no symbol is left.
-use Rattle.std.proofs.Common.{◌≡◌, ℕ, true, [], ◌∷◌, List, refl, Option}
+use Rattle.std.proofs.Common.{◌≡◌, ℕ, true, [], ◌∷◌, List, refl, Option, rules}
 use Rattle.kt_grammar.specs.declared.symbol.Symbol.{Symbol}
 use Rattle.kt_grammar.specs.Cursor.{unexpected, name_at, begins_sign}
 use Rattle.kt_grammar.specs.Reading.{begins_base, bare_base_at, behind_const}

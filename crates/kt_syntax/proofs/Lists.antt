@@ -1,11 +1,12 @@
 -- How a loop reads a list.
-use Rattle.std.proofs.Common.{◌≡◌, ℕ, zero, suc, ◌-◌, ◌<◌, ◌≤◌, Bool, true, false, List, [], ◌∷◌, ◌++◌, length, drop, Result, Ok, Err, if◌then◌else◌, refl, sym, ap, ◌∙◌, arith}
+use Rattle.std.proofs.Common.{◌≡◌, ℕ, zero, suc, ◌-◌, ◌<◌, ◌≤◌, Bool, true, false, List, [], ◌∷◌, ◌++◌, length, drop, Result, Ok, Err, if◌then◌else◌, Option, refl, sym, ap, ◌∙◌, arith}
 use Rattle.std.proofs.lemmas.Grind.{common_steps}
 use Rattle.kt_grammar.specs.declared.fault.Fault.{Fault}
 use Rattle.kt_grammar.specs.declared.fault.Fault.TheVariants.{Syntax, TooDeep, NoMemory}
 use Rattle.kt_grammar.specs.declared.sign.Sign.TheVariants as signs
 use Rattle.kt_grammar.specs.declared.symbol.Symbol.{Symbol}
 use Rattle.kt_grammar.specs.Cursor.{◌>>=◌, Outcome, Fails, unexpected, begins_sign, listed_at, until_at}
+use Rattle.kt_syntax.specs.Reading.{Blocks, entry_at, entries_at}
 
 -- Behind the items that are done, what reading gives with this limit is what it gives from the start.
 pub record IsUnderWay {A : Type 0} (reading : ℕ → List A → List Symbol → Outcome (List A)) (whole : Outcome (List A)) (done : List A) (rest : List Symbol) : Type 0 where
@@ -129,3 +130,11 @@ until-fails stops item (suc n) done rest (TooDeep k) at_end le goes_on fails = r
 pub until_fails : {A : Type 0} (stops : List Symbol → Bool) (item : List Symbol → Outcome A) (whole : Outcome (List A)) (done : List A) (rest : List Symbol) (e : Fault)
     → item [] ≡ unexpected [] → IsUnderWay (until_at stops item) whole done rest → stops rest ≡ false → Fails e (item rest) → Fails e whole
 until_fails stops item whole done rest e at_end so_far goes_on fails = rw so_far.same at (until-fails stops item so_far.limit done rest e at_end so_far.fits goes_on fails)
+
+-- no entries are read where reading up to their brace fails
+pub entries_fails : (n : ℕ) (b : Option Blocks) (symbols : List Symbol) (e : Fault)
+    → Fails e (until_at (begins_sign signs.CloseBrace) (entry_at n b) (length symbols) [] symbols) → Fails e (entries_at n b symbols)
+unfolding entries_at
+entries_fails n b symbols NoMemory fails = tt
+entries_fails n b symbols (Syntax k) fails = rw fails refl
+entries_fails n b symbols (TooDeep k) fails = rw fails refl

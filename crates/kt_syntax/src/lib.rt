@@ -4,15 +4,18 @@
 mod constant;
 mod declarator;
 mod external;
+mod fault;
 mod function;
 mod global;
 mod head;
 mod local;
 mod node;
+mod parser;
 mod pointer;
 mod statement;
 mod tree;
 
+pub use fault::SyntaxFault;
 pub use tree::{
     Body, Constant, Declarator, Extent, Fields, File, ForStart, Function, GlobalDeclarator, Item,
     LocalDeclarator, Locals, Parameter, Pointer, Stars, Stmt,

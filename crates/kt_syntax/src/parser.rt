@@ -1,0 +1,61 @@
+//! A whole file.
+
+ghost use Rattle.std.specs.Prelude.{◌≡◌, [], List, Ok, IfOk, IfErr};
+ghost use Rattle.kt_grammar.specs.Cursor.{Fails, Outcome};
+ghost use Rattle.kt_syntax.specs.Tree.{External, tree_of};
+ghost use Rattle.kt_syntax.specs.Reading.{file_at};
+ghost use Rattle.kt_syntax.specs.Places.{place_of, Tells};
+
+use super::external::externals;
+use super::fault::SyntaxFault;
+use super::tree::File;
+use kt_grammar::{Fault, Symbol};
+use kt_lex::Token;
+use std::alloc::Global;
+
+/// How many constructs may be open at a token.
+const DEPTH_LIMIT: u32 = 200;
+
+/// The first byte of the token from which so many are left, or the length of the file.
+fn place(tokens: &[Token], total: u32, left: usize) -> u32
+    ensures { result ≡ place_of tokens.now total left }
+{
+    match tokens.get(tokens.len().saturating_sub(left)) {
+        Some(token) => token.at,
+        None => total,
+    }
+}
+
+/// A fault at its place.
+fn told(tokens: &[Token], total: u32, fault: Fault) -> SyntaxFault
+    ensures { (read : Outcome (List External)) → Fails fault read → Tells tokens.now total result read }
+{
+    match fault {
+        Fault::Syntax(left) => SyntaxFault::Syntax {
+            at: place(tokens, total, left),
+        },
+        Fault::TooDeep(left) => SyntaxFault::TooDeep {
+            at: place(tokens, total, left),
+        },
+        Fault::NoMemory => SyntaxFault::NoMemory,
+    }
+}
+
+/// The file with these symbols, which are those of the tokens.
+fn read_file(
+    alloc: Global,
+    symbols: &[Symbol],
+    tokens: &[Token],
+    total: u32,
+) -> Result<File, SyntaxFault>
+    ensures tree { IfOk result (λ x. (file_at 200 symbols.now ≡ Ok ((tree_of x).externals, [])) × (x.length ≡ total)) }
+    ensures fault { IfErr result (λ e. Tells tokens.now total e (file_at 200 symbols.now)) }
+{
+    match externals(alloc, DEPTH_LIMIT, symbols) {
+        Ok(items) => Ok(File {
+            items,
+            length: total,
+        }),
+        Err(fault) => Err(told(tokens, total, fault)),
+    }
+}
