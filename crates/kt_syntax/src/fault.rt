@@ -1,3 +1,7 @@
+ghost use Rattle.std.specs.Prelude.{◌≡◌};
+ghost use Rattle.kt_syntax.specs.declared.fault.SyntaxFault.TheVariants.{NoMemory};
+
+use std::alloc::AllocError;
 use thiserror::Error;
 
 /// Why tokens are no file, and at which byte.
@@ -12,4 +16,12 @@ pub enum SyntaxFault {
     TooDeep { at: u32 },
     #[error("out of memory")]
     NoMemory,
+}
+
+impl From<AllocError> for SyntaxFault {
+    ghost from_gives = { λ _ e. e ≡ NoMemory };
+
+    fn from(_e: AllocError) -> SyntaxFault {
+        SyntaxFault::NoMemory
+    }
 }

@@ -1,6 +1,8 @@
 //! A whole file.
 
-ghost use Rattle.std.specs.Prelude.{◌≡◌, [], List, Ok, IfOk, IfErr};
+ghost use Rattle.std.specs.Prelude.{◌≡◌, ◌<◌, ◌^◌, [], List, length, Ok, IfOk, IfErr};
+ghost use Rattle.kt_lex.specs.Tokens.{tokens_of};
+ghost use Rattle.kt_grammar.specs.Symbols.{symbols_of_tokens};
 ghost use Rattle.kt_grammar.specs.Cursor.{Fails, Outcome};
 ghost use Rattle.kt_syntax.specs.Tree.{External, tree_of};
 ghost use Rattle.kt_syntax.specs.Reading.{file_at};
@@ -9,7 +11,7 @@ ghost use Rattle.kt_syntax.specs.Places.{place_of, Tells};
 use super::external::externals;
 use super::fault::SyntaxFault;
 use super::tree::File;
-use kt_grammar::{Fault, Symbol};
+use kt_grammar::{Fault, Symbol, symbols};
 use kt_lex::Token;
 use std::alloc::Global;
 
@@ -58,4 +60,15 @@ fn read_file(
         }),
         Err(fault) => Err(told(tokens, total, fault)),
     }
+}
+
+/// The file that the tokens of a text are.
+pub fn parse(alloc: Global, tokens: &[Token], bytes: &[u8]) -> Result<File, SyntaxFault>
+    requires short { length bytes.now < 2 ^ 32 }
+    requires lexed { tokens_of bytes.now ≡ Ok tokens.now }
+    ensures tree { IfOk result (λ x. (file_at 200 (symbols_of_tokens bytes.now tokens.now) ≡ Ok ((tree_of x).externals, [])) × (x.length ≡ length bytes.now)) }
+    ensures fault { IfErr result (λ e. Tells tokens.now (length bytes.now) e (file_at 200 (symbols_of_tokens bytes.now tokens.now))) }
+{
+    let symbols = symbols(alloc, tokens, bytes)?;
+    read_file(alloc, &symbols, tokens, bytes.len() as u32)
 }
