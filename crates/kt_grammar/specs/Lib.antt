@@ -1,9 +1,11 @@
 pub mod Identifiers
+pub mod Symbols
 pub mod Tree
 pub mod Signs
 pub mod Marks
 pub mod Spelling
 pub mod Cursor
 pub mod Reading
+pub mod Heads
 pub mod Cut
 pub mod Laws

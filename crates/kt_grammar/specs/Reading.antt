@@ -201,9 +201,10 @@ assign_here g _ = None
 
 -- binary operators of a level and their right operands, behind an expression
 unfoldable pub chain_at : Dialect → Option Readers → ℕ → Term → List Symbol → Outcome Term
-chain_at g r l x symbols = elim (binary_here l symbols) as (λ _. Outcome Term)
-    [ None ↦ Ok (x, symbols)
-    | (Some op) ↦ deep r (begins_expr g) (λ r rest. r.level (suc l) rest >>= λ y. r.chain l (Operated op x y.0) y.1) (drop 1 symbols) ]
+chain_at g r l x symbols = elim (binary_here l symbols) as (λ _. Outcome Term) [
+  | None ↦ Ok (x, symbols)
+  | (Some op) ↦ deep r (begins_expr g) (λ r rest. r.level (suc l) rest >>= λ y. r.chain l (Operated op x y.0) y.1) (drop 1 symbols)
+]
 
 unfoldable pub choice_at : Dialect → Option Readers → Term → List Symbol → Outcome Term
 choice_at g r x symbols =
@@ -212,9 +213,10 @@ choice_at g r x symbols =
     else Ok (x, symbols)
 
 unfoldable pub assignment_at : Dialect → Option Readers → Term → List Symbol → Outcome Term
-assignment_at g r x symbols = elim (assign_here g symbols) as (λ _. Outcome Term)
-    [ None ↦ Ok (x, symbols)
-    | (Some op) ↦ deep_level g r 0 (drop 1 symbols) >>= λ y. Ok (Assigned op x y.0, y.1) ]
+assignment_at g r x symbols = elim (assign_here g symbols) as (λ _. Outcome Term) [
+  | None ↦ Ok (x, symbols)
+  | (Some op) ↦ deep_level g r 0 (drop 1 symbols) >>= λ y. Ok (Assigned op x y.0, y.1)
+]
 
 -- what goes on at a level behind an expression of a higher one
 unfoldable pub tail_at : Dialect → Option Readers → ℕ → Term → List Symbol → Outcome Term

@@ -3,20 +3,31 @@
 
 mod cursor;
 mod fault;
+mod head;
 mod keyword;
+mod levels;
 mod node;
 mod operator;
+mod postfix;
 mod sign;
 mod sign_of;
+mod spelled;
+mod stands_for;
 mod symbol;
 mod tree;
-mod type_name;
+mod types;
+mod unary;
 mod word;
 
+pub use cursor::{begins_sign, behind, behind_first, count_sign, name};
 pub use fault::Fault;
 pub use keyword::{Keyword, RuleWord};
+pub use levels::{begins_expr, expr, stuck};
 pub use operator::{AssignOperator, BinaryOperator, Dialect, PrefixOperator, StepOperator};
 pub use sign::Sign;
+pub use sign_of::{assign_of, binary_of, precedence, prefix_of, step_of};
+pub use stands_for::symbols;
 pub use symbol::Symbol;
 pub use tree::{Base, Expr, Name, TypeName};
+pub use types::{base, begins_base, type_name};
 pub use word::Word;

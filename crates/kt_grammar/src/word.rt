@@ -1,5 +1,7 @@
-ghost use Rattle.std.specs.Prelude.{◌≡◌};
+ghost use Rattle.std.specs.Prelude.{◌≡◌, if◌then◌else◌};
+ghost use Rattle.kt_grammar.specs.Identifiers.{is_identifier};
 
+use super::spelled::is_identifier;
 use std::alloc::AllocError;
 use std::marker::Model;
 
@@ -24,6 +26,17 @@ impl Model for Word {
 }
 
 impl Word {
+    /// The word of these bytes, where they are an identifier.
+    pub fn new(bytes: Vec<u8>) -> Option<Word>
+        ensures { result ≡ (if is_identifier bytes.items then Some bytes.items else None) }
+    {
+        if is_identifier(&bytes) {
+            Some(Word { bytes })
+        } else {
+            None
+        }
+    }
+
     /// Its bytes.
     pub fn as_bytes(&self) -> &[u8]
         ensures { result.now ≡ self.now }
