@@ -29,5 +29,5 @@ pub use sign_of::{assign_of, binary_of, precedence, prefix_of, step_of};
 pub use stands_for::symbols;
 pub use symbol::Symbol;
 pub use tree::{Base, Expr, Name, TypeName};
-pub use types::{base, begins_base, type_name};
+pub use types::{bare_base, base, begins_base, type_name};
 pub use word::Word;
