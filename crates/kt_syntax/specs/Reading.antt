@@ -323,10 +323,11 @@ bare_stars (Some p) = elim p.extent as (λ _. Option (Option Stars)) [ None ↦ 
 -- globals, or a function where a parenthesis follows the name
 unfoldable pub named_behind : ℕ → Base → Option Pointer → Name → List Symbol → Outcome External
 named_behind n base p name symbols =
-    elim (bare_stars p) as (λ _. Outcome External)
-    [ None ↦ global_behind p name symbols >>= λ g. globals_behind base g.0 g.1
-    | (Some stars) ↦ if begins_sign signs.OpenParenthesis symbols then function_behind n (Some base) stars name (drop 1 symbols)
-        else (global_behind p name symbols >>= λ g. globals_behind base g.0 g.1) ]
+    elim (bare_stars p) as (λ _. Outcome External) [
+      | None ↦ global_behind p name symbols >>= λ g. globals_behind base g.0 g.1
+      | (Some stars) ↦ if begins_sign signs.OpenParenthesis symbols then function_behind n (Some base) stars name (drop 1 symbols)
+          else (global_behind p name symbols >>= λ g. globals_behind base g.0 g.1)
+    ]
 
 -- globals or a function behind the base
 unfoldable pub declared_behind : ℕ → Base → List Symbol → Outcome External

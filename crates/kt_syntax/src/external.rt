@@ -24,7 +24,11 @@ fn behind_leading(symbols: &[Symbol]) -> &[Symbol]
     ensures shorter { length result.now ≤ length symbols.now }
 {
     let mut rest = symbols;
-    while let [Symbol::Keyword(_, Keyword::Static | Keyword::Const), behind @ ..] = rest {
+    while let [
+        Symbol::Keyword(_, Keyword::Static | Keyword::Const),
+        behind @ ..,
+    ] = rest
+    {
         rest = behind;
     }
     rest

@@ -55,11 +55,7 @@ fn definition(
 
 /// A semicolon, or the body of a function.
 #[tactic(auto, unfolding(crate::specs::Reading::body_at))]
-fn body(
-    alloc: Global,
-    depth: u32,
-    symbols: &[Symbol],
-) -> Result<(Option<Body>, &[Symbol]), Fault>
+fn body(alloc: Global, depth: u32, symbols: &[Symbol]) -> Result<(Option<Body>, &[Symbol]), Fault>
     ensures read { Gives (λ x. (option_map definition_of x.0, x.1.now)) result (body_at depth symbols.now) }
     ensures shorter { IfOk result (λ x. length x.1.now < length symbols.now) }
 {

@@ -15,11 +15,7 @@ use std::alloc::Global;
 
 /// The initial value of a local, where it stands.
 #[tactic(auto, unfolding(crate::specs::Reading::value_at))]
-fn value(
-    alloc: Global,
-    depth: u32,
-    symbols: &[Symbol],
-) -> Result<(Option<Expr>, &[Symbol]), Fault>
+fn value(alloc: Global, depth: u32, symbols: &[Symbol]) -> Result<(Option<Expr>, &[Symbol]), Fault>
     ensures read { Gives (λ x. (option_map term_of x.0, x.1.now)) result (value_at depth symbols.now) }
     ensures shorter { IfOk result (λ x. length x.1.now ≤ length symbols.now) }
 {

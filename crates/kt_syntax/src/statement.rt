@@ -7,8 +7,8 @@ ghost use Rattle.kt_syntax.specs.Tree.{statement_of};
 ghost use Rattle.kt_syntax.specs.Reading.{blocks, part_at, block_behind, else_at, if_behind, while_behind, do_behind, for_behind, worded_at, statement_at, entry_at, entries_at};
 
 use super::head::{
-    begins_entry, begins_statement, behind_else, behind_while, condition, ended, evaluated, refusal,
-    start,
+    begins_entry, begins_statement, behind_else, behind_while, condition, ended, evaluated,
+    refusal, start,
 };
 use super::local::locals;
 use super::node;

@@ -6,7 +6,15 @@ use std::test::Fail;
 
 /// What stands first in a function's body, what is then written over and over, what stands in the middle, what closes each,
 /// what stands last; how often it may be written, and where it is too deep if it is written once more.
-type Nest = (&'static str, &'static str, &'static str, &'static str, &'static str, usize, u32);
+type Nest = (
+    &'static str,
+    &'static str,
+    &'static str,
+    &'static str,
+    &'static str,
+    usize,
+    u32,
+);
 
 // The body begins at byte 9, where one construct is open.
 const NESTS: [Nest; 33] = [

@@ -1,6 +1,8 @@
 //! Expressions as text: an operator before its operands. `left`: how many more may be inside each other.
 
-use kt_grammar::{AssignOperator, Base, BinaryOperator, Expr, Name, PrefixOperator, StepOperator, TypeName};
+use kt_grammar::{
+    AssignOperator, Base, BinaryOperator, Expr, Name, PrefixOperator, StepOperator, TypeName,
+};
 use kt_lex::Number;
 use std::alloc::Global;
 use std::test::Fail;
@@ -112,7 +114,14 @@ fn two(alloc: Global, left: u32, head: &str, a: &Expr, b: &Expr) -> Result<Strin
 }
 
 #[cycle(printing)]
-fn three(alloc: Global, left: u32, head: &str, a: &Expr, b: &Expr, c: &Expr) -> Result<String, Fail> {
+fn three(
+    alloc: Global,
+    left: u32,
+    head: &str,
+    a: &Expr,
+    b: &Expr,
+    c: &Expr,
+) -> Result<String, Fail> {
     let a = expr_text(alloc, left, a)?;
     let b = expr_text(alloc, left, b)?;
     let c = expr_text(alloc, left, c)?;

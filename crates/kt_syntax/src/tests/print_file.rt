@@ -144,14 +144,26 @@ fn block_text(alloc: Global, left: u32, entries: &[Stmt]) -> Result<String, Fail
 
 /// A word and an expression before a statement.
 #[cycle(printing)]
-fn headed_text(alloc: Global, left: u32, head: &str, test: &Expr, body: &Stmt) -> Result<String, Fail> {
+fn headed_text(
+    alloc: Global,
+    left: u32,
+    head: &str,
+    test: &Expr,
+    body: &Stmt,
+) -> Result<String, Fail> {
     let test = expr_text(alloc, DEEPEST, test)?;
     let body = stmt_text(alloc, left, body)?;
     format!(in alloc; "({head} {test} {body})").map_err(Fail::from)
 }
 
 #[cycle(printing)]
-fn if_else_text(alloc: Global, left: u32, test: &Expr, one: &Stmt, other: &Stmt) -> Result<String, Fail> {
+fn if_else_text(
+    alloc: Global,
+    left: u32,
+    test: &Expr,
+    one: &Stmt,
+    other: &Stmt,
+) -> Result<String, Fail> {
     let test = expr_text(alloc, DEEPEST, test)?;
     let one = stmt_text(alloc, left, one)?;
     let other = stmt_text(alloc, left, other)?;
