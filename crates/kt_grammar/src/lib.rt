@@ -37,5 +37,5 @@ pub use stands::{expr_fault_law, expr_goes_on_law, expr_stands_law};
 pub use stands_for::symbols;
 pub use symbol::Symbol;
 pub use tree::{Base, Expr, Name, TypeName};
-pub use types::{base, begins_base, type_name};
+pub use types::{bare_base, base, begins_base, type_name};
 pub use word::Word;

@@ -41,8 +41,9 @@ fn behind_const(symbols: &[Symbol]) -> &[Symbol]
     }
 }
 
+/// A type without stars and without a `const` before it.
 #[tactic(auto, unfolding(crate::specs::Reading::bare_base_at))]
-fn bare_base(symbols: &[Symbol]) -> Result<(Base, &[Symbol]), Fault>
+pub fn bare_base(symbols: &[Symbol]) -> Result<(Base, &[Symbol]), Fault>
     ensures read { Gives (λ x. (x.0, x.1.now)) result (bare_base_at symbols.now) }
     ensures shorter { IfOk result (λ x. length x.1.now < length symbols.now) }
 {

@@ -18,3 +18,8 @@ pub mod StatementFaults
 pub mod ExternalFaults
 pub mod FileLocal
 pub mod FaultsAreThere
+pub mod Deep
+pub mod Ends
+pub mod Loops
+pub mod Nodes
+pub mod Parsing

@@ -1,6 +1,8 @@
 -- The syntax tree of a C file.
 use Rattle.std.specs.Prelude.{◌≡◌, ℕ, List}
+use Rattle.kt_lex.specs.declared.token.Token.{Token}
 use Rattle.kt_grammar.specs.declared.symbol.Symbol.{Symbol}
+use Rattle.kt_grammar.specs.Symbols.{symbols_of_tokens}
 use Rattle.kt_grammar.specs.Marks.{Mark, symbols_of, IsShallow}
 use Rattle.kt_syntax.specs.Tree.{External}
 use Rattle.kt_syntax.specs.Spelling.{externals}
@@ -21,3 +23,8 @@ pub record IsFile (symbols : List Symbol) (xs : List External) : Type 0 where
 -- a file has one tree
 abbrev pub OneTree : Type 0
 OneTree = (symbols : List Symbol) (xs ys : List External) → IsFile symbols xs → IsFile symbols ys → xs ≡ ys
+
+-- the tree is that of these tokens of a file, no token deeper than 200
+pub record IsTree (bytes : List ℕ) (tokens : List Token) (x : Tree) : Type 0 where
+  pub spelled : IsSpelled 200 (symbols_of_tokens bytes tokens) x.externals
+  pub bytes_long : x.length ≡ length bytes

@@ -7,3 +7,4 @@ pub mod StandLaws
 pub mod ListStands
 pub mod Local
 pub mod FaultPlaces
+pub mod Places

@@ -1,12 +1,28 @@
 //! The grammar of C files and its parser.
 #![tactic(auto)]
 
+mod constant;
+mod declarator;
+mod external;
+mod fault;
+mod function;
+mod global;
+mod head;
 mod laws;
+mod local;
+mod node;
+mod parser;
 mod places;
+mod pointer;
 mod stands;
+mod statement;
+#[cfg(test)]
+mod tests;
 mod tree;
 
+pub use fault::SyntaxFault;
 pub use laws::file_laws;
+pub use parser::parse;
 pub use places::file_places_law;
 pub use stands::{file_fault_law, file_stands_law};
 pub use tree::{

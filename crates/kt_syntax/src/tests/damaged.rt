@@ -1,0 +1,115 @@
+//! Files that are none, and where that is told.
+
+use super::verdict::verdict;
+use std::test::Fail;
+
+const DAMAGED: [(&str, u32); 93] = [
+    ("x", 0),
+    ("else", 0),
+    ("INIT", 0),
+    ("int", 3),
+    ("int a", 5),
+    ("int a,", 6),
+    ("int a b;", 6),
+    ("int ;", 4),
+    ("int INIT;", 4),
+    ("int a;;", 6),
+    ("int a, int b;", 7),
+    ("int const a;", 4),
+    ("long int a;", 5),
+    ("struct", 6),
+    ("struct s", 8),
+    ("struct s {", 10),
+    ("struct s {};", 10),
+    ("struct s { int a }", 17),
+    ("struct s { int a; }", 19),
+    ("struct s { int a; } b;", 20),
+    ("struct s { void a; };", 11),
+    ("struct s { int a = 1; };", 17),
+    ("struct {int a;};", 7),
+    ("static struct s;", 15),
+    ("static struct s {", 16),
+    ("void a;", 6),
+    ("void;", 4),
+    // functions
+    ("int f(", 6),
+    ("int f()", 7),
+    ("int f(int)", 9),
+    ("int f(void a);", 11),
+    ("int f(int a,);", 12),
+    ("int f(int a[3]);", 11),
+    ("int f(static int a);", 6),
+    ("int f() int g();", 8),
+    ("int f() E_NOTELOCALS;", 20),
+    ("int f() { } ;", 12),
+    // declarators
+    ("int *E_PTRARRAY(n) f();", 20),
+    ("int E_PTRARRAY(n) a;", 4),
+    ("int *E_PTRARRAY() a;", 16),
+    ("int *E_PTRARRAY(n a;", 18),
+    ("int a[];", 6),
+    ("int a[n];", 6),
+    ("int a[1;", 7),
+    ("int a[1][2];", 8),
+    // initial values
+    ("int a = ;", 8),
+    ("int a = - -1;", 10),
+    ("int a = 1 + 2;", 10),
+    ("int a = b;", 8),
+    ("int a = -'x';", 9),
+    // statements
+    ("int f() {", 9),
+    ("int f() {}}", 10),
+    ("int f() { a }", 12),
+    ("int f() { int; }", 13),
+    ("int f() { static int a; }", 10),
+    ("int f() { int a[3]; }", 15),
+    ("int f() { int a = ; }", 18),
+    ("int f() { else; }", 10),
+    ("int f() { if a; }", 13),
+    ("int f() { if (); }", 14),
+    ("int f() { if (a) int b; }", 17),
+    ("int f() { if (a) }", 17),
+    ("int f() { if (a) ; else ; else ; }", 26),
+    ("int f() { while (a) do ; while (b) }", 35),
+    ("int f() { do ; }", 15),
+    ("int f() { for (;) ; }", 16),
+    ("int f() { for (;;;) ; }", 17),
+    ("int f() { for (int a = 1, b) ; }", 27),
+    ("int f() { return int; }", 17),
+    ("int f() { break 1; }", 16),
+    ("int f() { void; }", 10),
+    // expressions
+    ("int f() { a +; }", 13),
+    ("int f() { a b; }", 12),
+    ("int f() { (a; }", 12),
+    ("int f() { a); }", 11),
+    ("int f() { (int); }", 15),
+    ("int f() { (int a); }", 15),
+    ("int f() { sizeof a; }", 17),
+    ("int f() { sizeof(a); }", 17),
+    ("int f() { a. 1; }", 13),
+    ("int f() { f(a,); }", 14),
+    ("int f() { f(int); }", 12),
+    ("int f() { a ? b; }", 15),
+    ("int f() { a ? b : ; }", 18),
+    ("int f() { a[]; }", 12),
+    ("int f() { (a)(b); }", 13),
+    ("int f() { f()(); }", 13),
+    ("int f() { a = int; }", 14),
+    ("int f() { \"a\" \"b\"; }", 14),
+    ("int f() { $in; }", 10),
+    ("int f() { a : b; }", 12),
+    ("int f() { *; }", 11),
+    ("int f() { a ++ b; }", 15),
+];
+
+#[test]
+fn faults_are_told_at_their_place(rt: HostRuntime) -> Result<(), Fail> {
+    for (text, at) in DAMAGED {
+        let found = verdict(rt.alloc(), text)?;
+        let wanted = format!(in rt.alloc(); "syntax {at}")?;
+        assert_eq!(rt; found.as_str(), wanted.as_str(), "of {text}");
+    }
+    Ok(())
+}
