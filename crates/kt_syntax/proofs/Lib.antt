@@ -22,4 +22,3 @@ pub mod Deep
 pub mod Ends
 pub mod Loops
 pub mod Nodes
-pub mod Parsing

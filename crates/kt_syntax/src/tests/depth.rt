@@ -12,12 +12,12 @@ type Nest = (
     &'static str,
     &'static str,
     &'static str,
-    usize,
+    u16,
     u32,
 );
 
 // The body begins at byte 9, where one construct is open.
-const NESTS: [Nest; 33] = [
+const NESTS: [Nest; 46] = [
     ("", "{", "", "}", "", 200, 209),
     ("", "if(a)", ";", "", "", 199, 1007),
     ("", "if(a);else ", ";", "", "", 199, 2201),
@@ -51,6 +51,19 @@ const NESTS: [Nest; 33] = [
     ("a", "->b", "", "", ";", 200, 610),
     ("a", "++", "", "", ";", 200, 410),
     ("a", "[b]", "", "", ";", 199, 608),
+    ("", "a+=", "a", "", ";", 199, 609),
+    ("", "a-=", "a", "", ";", 199, 609),
+    ("", "a*=", "a", "", ";", 199, 609),
+    ("", "a/=", "a", "", ";", 199, 609),
+    ("", "a%=", "a", "", ";", 199, 609),
+    ("a", "!=a", "", "", ";", 199, 609),
+    ("a", ">a", "", "", ";", 199, 409),
+    ("a", "<=a", "", "", ";", 199, 609),
+    ("a", ">=a", "", "", ";", 199, 609),
+    ("a", "-a", "", "", ";", 199, 409),
+    ("a", "/a", "", "", ";", 199, 409),
+    ("a", "%a", "", "", ";", 199, 409),
+    ("a", "--", "", "", ";", 200, 410),
     // an initial value is no deeper
     ("int x=", "(", "a", ")", ";", 199, 215),
 ];
@@ -79,10 +92,10 @@ fn nested(alloc: Global, nest: Nest, count: usize) -> Result<String, Fail> {
 fn files_may_be_200_deep(rt: HostRuntime) -> Result<(), Fail> {
     for nest in NESTS {
         let (_, open, _, _, _, most, at) = nest;
-        let deep = nested(rt.alloc(), nest, most)?;
+        let deep = nested(rt.alloc(), nest, most.into())?;
         let found = verdict(rt.alloc(), deep.as_str())?;
         assert_eq!(rt; found.as_str(), "", "of {}", open);
-        let deeper = nested(rt.alloc(), nest, most + 1)?;
+        let deeper = nested(rt.alloc(), nest, usize::from(most) + 1)?;
         let found = verdict(rt.alloc(), deeper.as_str())?;
         let wanted = format!(in rt.alloc(); "too deep {at}")?;
         assert_eq!(rt; found.as_str(), wanted.as_str(), "of {}", open);
