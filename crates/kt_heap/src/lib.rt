@@ -14,3 +14,6 @@ mod slots;
 pub use faults::AllocFault;
 pub use heap::Heap;
 pub use object::Obj;
+
+#[cfg(test)]
+mod tests;

@@ -17,9 +17,12 @@ pub struct Obj {
     pub cells: Cells,
 }
 
+// An enum has a tag of its own in each place, so a cell takes 16 bytes for its type and 32 for its value.
+const _: () = prove!(size_of::<Cell>() <= 48);
+
 impl Obj {
     /// What the cell at an offset holds: `bounds` past the object, and at a cell of another type.
-    pub fn value(&self, offset: u32, ty: Ty) -> Result<Value, Trap>
+    pub(crate) fn value(&self, offset: u32, ty: Ty) -> Result<Value, Trap>
         ensures { result ≡ value_in (Some (shown self.now)) offset ty }
     {
         match self.cells.as_slice().get(offset as usize) {
@@ -35,7 +38,7 @@ impl Obj {
     }
 
     /// The object with another cell at an offset. It moves no cell.
-    pub fn with_cell(self, offset: u32, cell: Cell) -> Obj
+    pub(crate) fn with_cell(self, offset: u32, cell: Cell) -> Obj
         requires { offset < length self.cells }
         ensures { result ≡ obj_with offset cell self }
     {
