@@ -2,7 +2,6 @@
 use Rattle.std.proofs.Common.{◌≡◌, ℕ, zero, suc, ◌+◌, ◌*◌, ◌≤◌, Bool, true, false, ◌||◌, cond, nat_lt, List, map, length, Option, None, Some, IsSome, IfSome, Result, Ok, Err, IsOk, OnOk, OnErr, refl, sym, ap, arith, length-append}
 use Rattle.std.proofs.lemmas.List.{length-map}
 use Rattle.std.proofs.lemmas.Bool.Decides.{nat_tests}
-use Rattle.std.specs.Prelude.{slice_get}
 use Rattle.std.specs.Option.{option_map, option_copied, is_some}
 use Rattle.std.specs.Borrow.{Bor}
 use Rattle.kt_types.specs.declared.kinds.Ty.{Ty}
@@ -63,6 +62,16 @@ no_fault m width count h =
     room true c n e h = cc
     room false true n e h = cc
     room false false n e h = grind (arith, nat_tests)
+
+-- nor has it more than 65,536 cells
+pub no_size_fault : (m : Memory) (width count : ℕ) → alloc_fault m width count ≡ None → count * width ≤ 65536
+no_size_fault m width count h =
+    small (nat_lt count 1) (nat_lt 65536 (count * width)) (nat_lt 4194304 (m.live + count * width)) (count * width) refl h
+  where
+    small : (a b c : Bool) (n : ℕ) → nat_lt 65536 n ≡ b → cond (a || b) (Some trap.Size) (cond c (Some trap.Heap) None) ≡ None → n ≤ 65536
+    small true b c n e h = cc
+    small false true c n e h = cc
+    small false false c n e h = grind (arith, nat_tests)
 
 -- ---- a result, by cases
 

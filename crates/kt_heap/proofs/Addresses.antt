@@ -1,5 +1,5 @@
 -- The objects by address after a change in one of the two lists.
-use Rattle.std.proofs.Common.{◌≡◌, ◌≢◌, ℕ, ◌==◌, ◌+◌, ◌-◌, ◌<◌, ◌≤◌, Bool, true, false, cond, List, length, Option, None, Some, refl, sym, ◌∙◌, ap, subst, arith, nat_lt}
+use Rattle.std.proofs.Common.{◌≡◌, ℕ, ◌==◌, ◌-◌, ◌<◌, ◌≤◌, true, false, cond, List, Option, refl, ◌∙◌, ap, arith, nat_lt}
 use Rattle.kt_heap.specs.declared.object.Obj.{Obj}
 use Rattle.kt_heap.specs.Objects.{held}
 use Rattle.kt_heap.specs.ByAddress.{ByAddress, obj_at, IsPut, IsSame}

@@ -1,10 +1,10 @@
 -- What a heap keeps after a change of its heap objects.
-use Rattle.std.proofs.Common.{◌≡◌, ◌≢◌, ℕ, ◌==◌, ◌+◌, ◌-◌, ◌<◌, ◌≤◌, Bool, true, false, cond, List, [], ◌∷◌, ◌++◌, length, Option, None, Some, IsSome, refl, sym, ◌∙◌, ap, subst, arith, inl, inr}
+use Rattle.std.proofs.Common.{◌≡◌, ℕ, ◌-◌, ◌<◌, ◌≤◌, cond, [], ◌∷◌, ◌++◌, Option, None, Some, IsSome, refl, sym, ◌∙◌, ap, subst, arith, inl, inr}
 use Rattle.std.proofs.lemmas.List.Elements.{Contains-push_cases}
 use Rattle.std.specs.Option.{option_map}
 use Rattle.kt_mem.specs.declared.memory.Name.TheVariants.{Heap}
 use Rattle.kt_heap.specs.declared.object.Obj.{Obj}
-use Rattle.kt_heap.specs.Objects.{shown, held}
+use Rattle.kt_heap.specs.Objects.{shown}
 use Rattle.kt_heap.specs.ByAddress.{ByAddress, obj_at, next_address, IsPut, IsSame}
 use Rattle.kt_heap.specs.Heap.{State, memory, given, number_at, Paired, IsNew}
 use Rattle.kt_heap.specs.Inside.{IsHeap}

@@ -1,15 +1,14 @@
 -- The object under a name after a change of one place, and the memory after it.
-use Rattle.std.proofs.Common.{◌≡◌, ◌≢◌, ℕ, ◌==◌, ◌+◌, Bool, true, false, cond, ◌&&◌, List, length, Option, None, Some, refl, sym, ◌∙◌, ap}
+use Rattle.std.proofs.Common.{◌≡◌, ℕ, ◌==◌, Bool, true, false, cond, ◌&&◌, List, Option, refl, sym, ◌∙◌, ap}
 use Rattle.std.specs.Option.{option_map}
 use mathlib.Core.Path.{fun_ext}
 use Rattle.kt_mem.specs.declared.memory.Name.{Name}
 use Rattle.kt_mem.specs.declared.memory.Name.TheVariants.{Glob, Lit, Heap}
-use Rattle.kt_mem.specs.Memory.{Memory, Object, put, no_objects}
+use Rattle.kt_mem.specs.Memory.{Object, put}
 use Rattle.kt_heap.specs.declared.object.Obj.{Obj}
 use Rattle.kt_heap.specs.Objects.{shown, held, held_by}
 use Rattle.kt_heap.specs.ByAddress.{ByAddress, obj_at, next_address, IsPut, IsSame}
 use Rattle.kt_heap.specs.Heap.{State, object_at, memory}
-use Rattle.kt_heap.proofs.Places.{by_test}
 
 shown_if : (b : Bool) (o p : Option Obj) → option_map shown (cond b o p) ≡ cond b (option_map shown o) (option_map shown p)
 shown_if true o p = refl

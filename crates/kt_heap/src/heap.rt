@@ -121,8 +121,8 @@ impl Heap {
         }
     }
 
-    /// Ends the heap object that starts at a pointer. Nothing happens to null. A pointer that is not to the start of a
-    /// heap object is `free` (ISO/IEC 9899:2011, 7.22.3.3).
+    /// Ends the heap object that starts at a pointer. Nothing happens to null: `dead`, and `free` where the pointer is not
+    /// to the start of a heap object (ISO/IEC 9899:2011, 7.22.3.3).
     pub fn free(&mut self, p: Value) -> Result<(), Trap>
         ensures freed { OnOk result (release (memory self.old) p ≡ Ok (memory self.new)) }
         ensures trap { IfErr result (λ t. release (memory self.old) p ≡ Err t) }
@@ -136,7 +136,8 @@ impl Heap {
         }
     }
 
-    /// What the cell at a pointer holds.
+    /// What the cell at a pointer holds: `null`, `dead`, `bounds` past the object or at a cell of another type, `uninit`
+    /// (ISO/IEC 9899:2011, 6.3.2.1).
     pub fn load(&self, p: Value, ty: Ty) -> Result<Value, Trap>
         ensures { result ≡ load (memory self.now) p ty }
     {
@@ -153,7 +154,8 @@ impl Heap {
         }
     }
 
-    /// Writes a value into the cell at a pointer.
+    /// Writes a value into the cell at a pointer: `null`, `dead`, `bounds` past the object or at a cell of another type,
+    /// `literal` (ISO/IEC 9899:2011, 6.4.5, 6.5.16).
     pub fn store(&mut self, p: Value, ty: Ty, v: Value) -> Result<(), Trap>
         ensures stored { OnOk result (store (memory self.old) p ty v ≡ Ok (memory self.new)) }
         ensures trap { IfErr result (λ t. store (memory self.old) p ty v ≡ Err t) }

@@ -1,5 +1,5 @@
 //! Objects.
-ghost use Rattle.std.specs.Prelude.{◌≡◌, ◌<◌, List, length, map, Some, IfOk};
+ghost use Rattle.std.specs.Prelude.{◌≡◌, ◌*◌, ◌<◌, ◌≤◌, List, length, map, Some, IfOk};
 ghost use Rattle.kt_mem.specs.Memory.{value_in, fresh_cell, repeated, zero_value};
 ghost use Rattle.kt_heap.specs.Objects.{shown, obj_with};
 
@@ -77,13 +77,14 @@ fn fresh_cell(ty: Ty, zero: bool) -> Cell
 
 /// The cells of so many new elements, where an element has cells of these types.
 pub fn fresh_cells(alloc: Global, types: &[Ty], count: u32, zero: bool) -> Result<Cells, AllocError>
+    requires { count * length types.now ≤ 65536 }
     ensures { IfOk result (λ cs. cs ≡ repeated count (map (fresh_cell zero) types.now)) }
 {
     let mut element = Vec::with_capacity(alloc, types.len())?;
     for ty in types {
         element.push(fresh_cell(*ty, zero))?;
     }
-    let mut cells = Vec::new(alloc);
+    let mut cells = Vec::with_capacity(alloc, count as usize * types.len())?;
     for _ in 0..count {
         cells.extend_from_slice(element.as_slice())?;
     }

@@ -1,4 +1,4 @@
-use Rattle.std.proofs.Common.{◌≡◌, ℕ, zero, suc, ◌+◌, ◌++◌, List, map, refl, sym, ◌∙◌, ap, add-one, append_assoc, take, arith, length}
+use Rattle.std.proofs.Common.{◌≡◌, ℕ, zero, suc, ◌+◌, ◌++◌, List, map, ◌∙◌, ap, add-one, append_assoc, arith}
 use Rattle.std.proofs.lemmas.Grind.{common_steps}
 use Rattle.kt_mem.specs.declared.memory.Cell.{Cell}
 use Rattle.kt_mem.specs.Memory.{fresh_cell, repeated}

@@ -1,4 +1,4 @@
-use Rattle.std.proofs.Common.{◌≡◌, List, map, take}
+use Rattle.std.proofs.Common.{◌≡◌, map, take}
 use Rattle.kt_mem.specs.Memory.{fresh_cell, repeated}
 use Rattle.kt_heap.proofs.object.fresh_cells.Given as goal
 

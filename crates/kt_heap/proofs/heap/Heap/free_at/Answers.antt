@@ -1,13 +1,12 @@
-use Rattle.std.proofs.Common.{◌≡◌, ℕ, ◌+◌, ◌-◌, ◌<◌, ◌≤◌, List, [], ◌∷◌, ◌++◌, length, Option, None, Some, Ok, Err, IsOk, IsSome, IfSome, OnOk, refl, sym, ◌∙◌, ap, subst, arith}
+use Rattle.std.proofs.Common.{◌≡◌, ◌-◌, List, length, Option, None, Some, IfSome, sym, ◌∙◌, ap, subst, arith}
 use Rattle.std.specs.Option.{option_map}
-use Rattle.kt_mem.specs.declared.memory.Name.TheVariants as name
 use Rattle.kt_mem.specs.declared.memory.Cell.{Cell}
 use Rattle.kt_mem.specs.Memory.{without}
 use Rattle.kt_heap.specs.declared.object.Obj.{Obj}
-use Rattle.kt_heap.specs.Objects.{shown, obj_with}
-use Rattle.kt_heap.specs.ByAddress.{obj_at, next_address, IsPut}
-use Rattle.kt_heap.specs.Heap.{State, memory, given, number_at, place_address}
-use Rattle.kt_heap.specs.Inside.{state_of, IsHeap}
+use Rattle.kt_heap.specs.Objects.{shown}
+use Rattle.kt_heap.specs.ByAddress.{obj_at, next_address}
+use Rattle.kt_heap.specs.Heap.{memory}
+use Rattle.kt_heap.specs.Inside.{state_of}
 use Rattle.kt_heap.proofs.Look.{memory_put}
 use Rattle.kt_heap.proofs.Keeps.{keeps_put}
 use Rattle.kt_heap.proofs.heap.Heap.free_at.Goals as goal

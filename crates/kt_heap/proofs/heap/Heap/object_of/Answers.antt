@@ -1,11 +1,8 @@
-use Rattle.std.proofs.Common.{◌≡◌, ℕ, ◌+◌, ◌<◌, ◌≤◌, List, [], ◌∷◌, ◌++◌, length, Option, None, Some, Ok, Err, IsOk, IsSome, IfSome, OnOk, refl, sym, ◌∙◌, ap, subst, arith}
-use Rattle.std.specs.Option.{option_map, option_copied}
-use Rattle.kt_mem.specs.declared.memory.Name.TheVariants as name
-use Rattle.kt_heap.specs.declared.object.Obj.{Obj}
-use Rattle.kt_heap.specs.Objects.{shown, obj_with}
-use Rattle.kt_heap.specs.ByAddress.{obj_at, next_address, IsPut}
-use Rattle.kt_heap.specs.Heap.{State, memory, given, number_at, place_address}
-use Rattle.kt_heap.specs.Inside.{state_of, IsHeap}
+use Rattle.std.proofs.Common.{◌≡◌, ℕ, None, Some, sym, ◌∙◌, ap, subst}
+use Rattle.std.specs.Option.{option_copied}
+use Rattle.kt_heap.specs.ByAddress.{obj_at}
+use Rattle.kt_heap.specs.Heap.{memory, number_at}
+use Rattle.kt_heap.specs.Inside.{state_of}
 use Rattle.kt_heap.proofs.Keeps.{number_of, number_dead, number_live}
 use Rattle.kt_heap.proofs.heap.Heap.object_of.Goals as goal
 

@@ -1,13 +1,9 @@
-use Rattle.std.proofs.Common.{◌≡◌, ℕ, ◌+◌, ◌<◌, ◌≤◌, List, [], ◌∷◌, ◌++◌, length, Option, None, Some, Ok, Err, IsOk, IsSome, IfSome, OnOk, refl, sym, ◌∙◌, ap, subst, arith}
-use Rattle.std.specs.Option.{option_map}
-use Rattle.kt_mem.specs.declared.memory.Name.TheVariants as name
+use Rattle.std.proofs.Common.{◌≡◌, ℕ, ◌+◌, ◌<◌, ◌≤◌, List, [], ◌∷◌, ◌++◌, length, Some, refl, ◌∙◌, ap, arith}
 use Rattle.kt_mem.specs.declared.memory.Cell.{Cell}
-use Rattle.kt_heap.specs.declared.object.Obj.{Obj}
-use Rattle.kt_heap.specs.Objects.{shown, obj_with}
-use Rattle.kt_heap.specs.ByAddress.{obj_at, next_address, IsPut}
-use Rattle.kt_heap.specs.Heap.{State, memory, given, number_at, place_address}
-use Rattle.kt_heap.specs.Inside.{state_of, IsHeap}
-use Rattle.kt_heap.proofs.Look.{memory_put, memory_same}
+use Rattle.kt_heap.specs.ByAddress.{next_address}
+use Rattle.kt_heap.specs.Heap.{memory, place_address}
+use Rattle.kt_heap.specs.Inside.{state_of}
+use Rattle.kt_heap.proofs.Look.{memory_put}
 use Rattle.kt_heap.proofs.Keeps.{keeps_given, keeps_same, place_is_new, next_in, live_in}
 use Rattle.kt_heap.proofs.heap.Heap.place.Goals as goal
 
