@@ -1,5 +1,8 @@
-pub mod Tree
+pub mod Back
+pub mod Inside
 pub mod Kinds
-pub mod Typed
 pub mod Names
+pub mod Stored
+pub mod Tree
+pub mod Typed
 pub mod Version

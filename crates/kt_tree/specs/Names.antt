@@ -1,6 +1,7 @@
 -- Names of C programs and of update points.
-use Rattle.std.specs.Prelude.{ℕ, Bool, false, ◌==◌, ◌&&◌, ◌||◌, not, List, [], ◌∷◌}
-use Rattle.std.specs.List.{list_all}
+use Rattle.std.specs.Prelude.{ℕ, Bool, false, ◌==◌, ◌&&◌, ◌||◌, not, List, [], ◌∷◌, Option, position}
+use Rattle.std.specs.Cmp.Lexicographic.{pointwise}
+use Rattle.std.specs.List.{list_all, list_any}
 use Rattle.std.specs.Char.{is_ascii_digit}
 use Rattle.kt_lex.specs.Bytes.{is_word_byte}
 use Rattle.kt_lex.specs.Words.{is_among, keywords}
@@ -13,3 +14,11 @@ is_identifier (b ∷ bytes) = not (is_ascii_digit b) && list_all is_word_byte (b
 -- letters, digits, `_` and `-`
 abbrev pub is_point_name : List ℕ → Bool
 is_point_name bytes = list_all (λ b. is_word_byte b || (b == 45)) bytes
+
+-- the name is one of these
+abbrev pub is_one_of : List ℕ → List (List ℕ) → Bool
+is_one_of name names = list_any (pointwise ◌==◌ name) names
+
+-- the first place of the name among these
+abbrev pub place_of : List ℕ → List (List ℕ) → Option ℕ
+place_of name names = position (pointwise ◌==◌ name) names

@@ -25,6 +25,10 @@ pub record Program : Type 0 where
   pub functions : List Function
   pub points : PointNames
 
+-- the program of these parts
+abbrev pub program : Table → List GlobalDecl → List (List ℕ) → List Function → PointNames → Program
+program types globals literals functions points = record { types = types; globals = globals; literals = literals; functions = functions; points = points }
+
 abbrev pub head_of : Function → Head
 head_of f = record { parameters = map (λ l. l.ty) (take f.params f.locals); result = f.result }
 
@@ -126,9 +130,26 @@ global_cells t (g ∷ rest) = g.count * length (cells t g.ty) + global_cells t r
 abbrev pub IsMain : Function → Type 0
 IsMain f = (f.name ≡ codes "main") × (f.result ≡ Some int_type) × (f.params ≡ 0)
 
+abbrev pub global_names : Program → List (List ℕ)
+global_names p = map (λ g. g.name) p.globals
+
+abbrev pub function_names : Program → List (List ℕ)
+function_names p = map (λ f. f.name) p.functions
+
 -- all names of globals and functions
 abbrev pub outer_names : Program → List (List ℕ)
-outer_names p = map (λ g. g.name) p.globals ++ map (λ f. f.name) p.functions
+outer_names p = global_names p ++ function_names p
+
+-- the names of the version's points: those at which it may be updated
+abbrev pub update_points : Program → List (List ℕ)
+update_points p = take p.points.updates p.points.names
+
+-- each entry of a list has a number
+pub record IsNumbered (p : Program) : Type 0 where
+  pub globals : length p.globals < 4294967296
+  pub literals : length p.literals < 4294967296
+  pub functions : length p.functions < 4294967296
+  pub points : length p.points.names < 4294967296
 
 pub record IsProgram (p : Program) : Type 0 where
   pub structs : AreIdentifiers p.types.structs

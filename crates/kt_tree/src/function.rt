@@ -1,6 +1,6 @@
+use super::lists::Locals;
 use super::stmt::Stmt;
-use kt_types::{FieldDecl, Text};
-use sqlite_items::Items;
+use kt_types::Text;
 
 /// A defined function. Its first locals are its parameters, `params` of them. A result of none is `void`; `noted` is true
 /// where it is declared with `E_NOTELOCALS`.
@@ -10,6 +10,6 @@ pub struct Fun {
     pub result: Option<u32>,
     pub params: u32,
     pub noted: bool,
-    pub locals: Items<FieldDecl>,
+    pub locals: Locals,
     pub body: Stmt,
 }

@@ -15,7 +15,7 @@ pub enum Init {
 
 /// A global: `ty` is the place of its element's type; `array` is true where its declaration has a number in brackets, which
 /// is `count`, and else `count` is 1.
-#[derive(Debug, Drop)]
+#[derive(Clone, Debug, Drop)]
 pub struct GlobalDecl {
     pub name: Text,
     pub ty: u32,

@@ -1,0 +1,109 @@
+//! A version.
+ghost use Rattle.std.specs.Prelude.{◌≡◌, IfOk, List, map, take};
+ghost use Rattle.kt_tree.specs.Names.{place_of};
+ghost use Rattle.kt_tree.specs.Tree.{function_of};
+ghost use Rattle.kt_tree.specs.Version.{Program, IsProgram, IsNumbered, global_names, function_names, update_points, program};
+
+use super::function::Fun;
+use super::global::GlobalDecl;
+use super::lists::{Functions, Globals, Literals};
+use super::names::Names;
+use kt_types::{Points, Text, TypeTable};
+use std::alloc::{AllocError, Global};
+use std::marker::Model;
+
+/// A version of a C program: its types, globals, strings, functions and names of points, each with the type that it
+/// is to have.
+#[derive(Drop)]
+pub struct Version {
+    types: TypeTable,
+    globals: Globals,
+    literals: Literals,
+    functions: Functions,
+    points: Points,
+    // The names of the globals, of the functions and of the update points, for look-ups.
+    global_names: Names,
+    function_names: Names,
+    point_names: Names,
+}
+
+impl Model for Version {
+    ghost use Rattle.kt_tree.specs.Version.{Program};
+    ghost use Rattle.kt_tree.specs.Stored.{program_code};
+
+    ghost Value = { Program };
+
+    ghost coded = { program_code };
+
+    ghost use Rattle.kt_tree.specs.Inside.{program_of, KeepsProgram};
+
+    ghost view = { program_of };
+
+    ghost invariant = { KeepsProgram };
+}
+
+impl Version {
+    /// The types.
+    pub fn types(&self) -> &TypeTable
+        ensures { result.now ≡ self.now.types }
+    {
+        &self.types
+    }
+
+    /// The globals, in the order of the file.
+    pub fn globals(&self) -> &[GlobalDecl]
+        ensures { result.now ≡ self.now.globals }
+    {
+        self.globals.as_slice()
+    }
+
+    /// The strings, in the order of the file.
+    pub fn literals(&self) -> &[Text]
+        ensures { result.now ≡ self.now.literals }
+    {
+        self.literals.as_slice()
+    }
+
+    /// The functions, in the order of their definitions.
+    pub fn functions(&self) -> &[Fun]
+        ensures { map function_of result.now ≡ self.now.functions }
+    {
+        self.functions.as_slice()
+    }
+
+    /// The names of points.
+    pub fn points(&self) -> &Points
+        ensures { result.now ≡ self.now.points }
+    {
+        &self.points
+    }
+
+    /// The number of the global of this name.
+    pub fn global(&self, name: &[u8]) -> Option<u32>
+        ensures { result ≡ place_of name.now (global_names self.now) }
+    {
+        self.global_names.find(name)
+    }
+
+    /// The number of the function of this name.
+    pub fn function(&self, name: &[u8]) -> Option<u32>
+        ensures { result ≡ place_of name.now (function_names self.now) }
+    {
+        self.function_names.find(name)
+    }
+
+    /// The number of the point of this name, at which the version may be updated.
+    pub fn point(&self, name: &[u8]) -> Option<u32>
+        ensures { result ≡ place_of name.now (update_points self.now) }
+    {
+        self.point_names.find(name)
+    }
+}
+
+/// What every version is.
+pub fn version_law(version: &Version)
+    ensures program { IsProgram version.now }
+    ensures numbered { IsNumbered version.now }
+{
+    let _ = &version.types;
+}
