@@ -5,7 +5,7 @@ ghost use Rattle.std.specs.Prelude.{◌≡◌};
 use super::function::Fun;
 use super::global::GlobalDecl;
 use kt_types::{FieldDecl, Text};
-use std::alloc::AllocError;
+use std::alloc::{AllocError, Global};
 use std::marker::Model;
 
 /// The globals of a version, in the order of the file.
@@ -43,6 +43,11 @@ impl Globals {
         ensures { result.now ≡ self.now }
     {
         self.items.as_slice()
+    }
+
+    // What the list was allocated by.
+    pub(crate) fn allocator(&self) -> Global {
+        *self.items.allocator()
     }
 }
 

@@ -4,10 +4,11 @@ ghost use Rattle.kt_tree.specs.Names.{place_of};
 ghost use Rattle.kt_tree.specs.Tree.{function_of};
 ghost use Rattle.kt_tree.specs.Version.{Program, IsProgram, IsNumbered, global_names, function_names, update_points, program};
 
+use super::copies::copy_functions;
 use super::function::Fun;
 use super::global::GlobalDecl;
 use super::lists::{Functions, Globals, Literals};
-use super::names::Names;
+use super::names::{Names, names_of, names_of_functions, names_of_globals};
 use kt_types::{Points, Text, TypeTable};
 use std::alloc::{AllocError, Global};
 use std::marker::Model;
@@ -43,6 +44,47 @@ impl Model for Version {
 }
 
 impl Version {
+    /// The version of these parts.
+    pub fn new(
+        alloc: Global,
+        types: TypeTable,
+        globals: Globals,
+        literals: Literals,
+        functions: Functions,
+        points: Points,
+    ) -> Result<Version, AllocError>
+        requires program { IsProgram (program types globals literals (map function_of functions) points) }
+        requires numbered { IsNumbered (program types globals literals (map function_of functions) points) }
+        ensures { IfOk result (λ v. v ≡ program types globals literals (map function_of functions) points) }
+    {
+        let global_names = names_of_globals(alloc, globals.as_slice())?;
+        let function_names = names_of_functions(alloc, functions.as_slice())?;
+        let point_names = names_of(alloc, update_points(&points))?;
+        Ok(Version {
+            types,
+            globals,
+            literals,
+            functions,
+            points,
+            global_names,
+            function_names,
+            point_names,
+        })
+    }
+
+    /// A version that is equal to this one.
+    pub fn copy(&self) -> Result<Version, AllocError>
+        ensures { IfOk result (λ v. v ≡ self.now) }
+    {
+        let alloc = self.globals.allocator();
+        let types = self.types.clone()?;
+        let globals = self.globals.clone()?;
+        let literals = self.literals.clone()?;
+        let functions = copy_functions(self.functions.as_slice(), alloc)?;
+        let points = self.points.clone()?;
+        Version::new(alloc, types, globals, literals, functions, points)
+    }
+
     /// The types.
     pub fn types(&self) -> &TypeTable
         ensures { result.now ≡ self.now.types }
@@ -106,4 +148,12 @@ pub fn version_law(version: &Version)
     ensures numbered { IsNumbered version.now }
 {
     let _ = &version.types;
+}
+
+// The names of the points at which a version may be updated.
+fn update_points(points: &Points) -> &[Text]
+    ensures { result.now ≡ take points.now.updates points.now.names }
+{
+    let updates = points.updates() as usize;
+    &points.as_slice()[..updates]
 }
