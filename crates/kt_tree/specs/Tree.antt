@@ -79,6 +79,11 @@ abbrev mutual
   expressions_of_row end_of-Expr = NoMore
   expressions_of_row (more_of-Expr e rest) = More (expression_of e) (expressions_of_row rest)
 
+-- operands, from the first to the last
+abbrev pub expressions_of : List Expr → Expressions
+expressions_of [] = NoMore
+expressions_of (e ∷ es) = More (expression_of e) (expressions_of es)
+
 abbrev mutual
   pub statement_of : Stmt → Statement
   statement_of (stmt.Expr e) = Evaluated (expression_of e)
@@ -96,6 +101,11 @@ abbrev mutual
   pub statements_of_row : {m : _} → Row_of-Stmt m → Statements
   statements_of_row end_of-Stmt = Done
   statements_of_row (more_of-Stmt s rest) = Then (statement_of s) (statements_of_row rest)
+
+-- statements, from the first to the last
+abbrev pub statements_of : List Stmt → Statements
+statements_of [] = Done
+statements_of (s ∷ ss) = Then (statement_of s) (statements_of ss)
 
 abbrev pub function_of : Fun → Function
 function_of f = record { name = f.name; result = f.result; params = f.params; noted = f.noted; locals = f.locals; body = statement_of f.body }

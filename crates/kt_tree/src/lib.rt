@@ -3,6 +3,7 @@
 
 mod copies;
 mod expr;
+mod forms;
 mod function;
 mod global;
 mod lists;
@@ -16,3 +17,6 @@ pub use global::{GlobalDecl, Init};
 pub use lists::{Functions, Globals, Literals, Locals};
 pub use stmt::Stmt;
 pub use version::{Version, version_law};
+
+#[cfg(test)]
+mod tests;

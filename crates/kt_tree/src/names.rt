@@ -1,5 +1,5 @@
 //! Names with their places.
-ghost use Rattle.std.specs.Prelude.{◌≡◌, [], ◌∷◌, ◌++◌, ◌<◌, length, false, OnOk, IfOk, map};
+ghost use Rattle.std.specs.Prelude.{◌≡◌, [], ◌∷◌, ◌++◌, ◌<◌, length, false, OnOk, IfOk, IfSome, map};
 ghost use Rattle.kt_tree.specs.Names.{is_one_of, place_of};
 ghost use Rattle.kt_tree.specs.Version.{AreDistinct};
 
@@ -49,7 +49,8 @@ impl Names {
 
     /// The place of the name.
     pub fn find(&self, name: &[u8]) -> Option<u32>
-        ensures { result ≡ place_of name.now self.now }
+        ensures place { result ≡ place_of name.now self.now }
+        ensures within { IfSome result (λ place. place < length self.now) }
     {
         match self.set.get_index_of(name) {
             Some(place) => Some(place as u32),

@@ -1,5 +1,5 @@
 //! A version.
-ghost use Rattle.std.specs.Prelude.{◌≡◌, IfOk, List, map, take};
+ghost use Rattle.std.specs.Prelude.{◌≡◌, ◌<◌, IfOk, IfSome, length, map, take};
 ghost use Rattle.kt_tree.specs.Names.{place_of};
 ghost use Rattle.kt_tree.specs.Tree.{function_of};
 ghost use Rattle.kt_tree.specs.Version.{Program, IsProgram, IsNumbered, global_names, function_names, update_points, program};
@@ -122,21 +122,24 @@ impl Version {
 
     /// The number of the global of this name.
     pub fn global(&self, name: &[u8]) -> Option<u32>
-        ensures { result ≡ place_of name.now (global_names self.now) }
+        ensures place { result ≡ place_of name.now (global_names self.now) }
+        ensures within { IfSome result (λ place. place < length self.now.globals) }
     {
         self.global_names.find(name)
     }
 
     /// The number of the function of this name.
     pub fn function(&self, name: &[u8]) -> Option<u32>
-        ensures { result ≡ place_of name.now (function_names self.now) }
+        ensures place { result ≡ place_of name.now (function_names self.now) }
+        ensures within { IfSome result (λ place. place < length self.now.functions) }
     {
         self.function_names.find(name)
     }
 
     /// The number of the point of this name, at which the version may be updated.
     pub fn point(&self, name: &[u8]) -> Option<u32>
-        ensures { result ≡ place_of name.now (update_points self.now) }
+        ensures place { result ≡ place_of name.now (update_points self.now) }
+        ensures within { IfSome result (λ place. place < self.now.points.updates) }
     {
         self.point_names.find(name)
     }
