@@ -81,13 +81,7 @@ impl Expr {
 
     /// `test ? a : b`, of that type.
     #[tactic(auto, using(crate::proofs::Operands::choice_form))]
-    pub fn choice(
-        alloc: Global,
-        test: Expr,
-        ty: u32,
-        a: Expr,
-        b: Expr,
-    ) -> Result<Expr, AllocError>
+    pub fn choice(alloc: Global, test: Expr, ty: u32, a: Expr, b: Expr) -> Result<Expr, AllocError>
         ensures { IfOk result (λ e. expression_of e ≡ Chosen (expression_of test) ty (expression_of a) (expression_of b)) }
     {
         let test = Boxed::new(alloc, test)?;

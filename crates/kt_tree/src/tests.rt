@@ -8,7 +8,7 @@ ghost use Rattle.kt_tree.specs.Tree.{expression_of, function_of, Compound, Then,
 
 use super::*;
 use kt_types::{Points, Text, TypeTable, View};
-use sqlite_items::{Boxed, Items};
+use sqlite_items::Items;
 use std::alloc::Global;
 use std::test::Fail;
 
@@ -47,19 +47,19 @@ fn literals(alloc: Global) -> Result<Literals, Fail>
 fn choice(alloc: Global) -> Result<Expr, Fail>
     ensures { IfOk result (λ e. expression_of e ≡ Chosen (Requested request.IsUpdating (Some 1) NoMore) 1 (Constant' (constant.Number (pos 7)) 1) (Constant' (constant.Number (pos 9)) 1)) }
 {
-    let asked = Expr::Request(Request::IsUpdating, Some(1), Items::new(alloc));
-    let asked = Boxed::new(alloc, asked)?;
-    let seven = Boxed::new(alloc, Expr::Constant(Constant::Number(7), 1))?;
-    let nine = Boxed::new(alloc, Expr::Constant(Constant::Number(9), 1))?;
-    Ok(Expr::Choice(asked, 1, seven, nine))
+    let asked = Expr::request(Request::IsUpdating, Some(1), Items::new(alloc));
+    let seven = Expr::Constant(Constant::Number(7), 1);
+    let nine = Expr::Constant(Constant::Number(9), 1);
+    Ok(Expr::choice(alloc, asked, 1, seven, nine)?)
 }
 
 // `int main() { kitsune_update("top"); return kitsune_is_updating() ? 7 : 9; }`
 fn main_function(alloc: Global) -> Result<Fun, Fail>
     ensures { IfOk result (λ f. function_of f ≡ record { name = codes "main"; result = Some 1; params = 0; noted = false; locals = []; body = Compound (Then (Evaluated (Requested (request.Point 0) None NoMore)) (Then (Returned (Some (Chosen (Requested request.IsUpdating (Some 1) NoMore) 1 (Constant' (constant.Number (pos 7)) 1) (Constant' (constant.Number (pos 9)) 1)))) Done)) }) }
 {
+    let update = Expr::request(Request::Point(0), None, Items::new(alloc));
     let mut body = Items::new(alloc);
-    body.push(Stmt::Expr(Expr::Request(Request::Point(0), None, Items::new(alloc))))?;
+    body.push(Stmt::Expr(update))?;
     body.push(Stmt::Return(Some(choice(alloc)?)))?;
     Ok(Fun {
         name: text(alloc, b"main")?,
@@ -67,7 +67,7 @@ fn main_function(alloc: Global) -> Result<Fun, Fail>
         params: 0,
         noted: false,
         locals: Locals::from_vec(Vec::new(alloc)),
-        body: Stmt::Block(body),
+        body: Stmt::block(body),
     })
 }
 
@@ -81,7 +81,7 @@ fn idle(alloc: Global) -> Result<Fun, Fail>
         params: 0,
         noted: true,
         locals: Locals::from_vec(Vec::new(alloc)),
-        body: Stmt::Block(Items::new(alloc)),
+        body: Stmt::block(Items::new(alloc)),
     })
 }
 
@@ -105,4 +105,34 @@ fn small(alloc: Global) -> Result<Version, Fail> {
     let functions = Functions::from_vec(functions);
     let points = points(alloc)?;
     Ok(Version::new(alloc, types, globals, literals, functions, points)?)
+}
+
+#[test]
+fn names_are_found(rt: HostRuntime) -> Result<(), Fail> {
+    let version = small(rt.alloc())?;
+    for (name, global, function, point) in [
+        (b"count".as_slice(), Some(0), None, None),
+        (b"main", None, Some(0), None),
+        (b"idle", None, Some(1), None),
+        (b"top", None, None, Some(0)),
+        (b"far", None, None, None),
+        (b"coun", None, None, None),
+    ] {
+        assert_eq!(rt; version.global(name), global);
+        assert_eq!(rt; version.function(name), function);
+        assert_eq!(rt; version.point(name), point);
+    }
+    Ok(())
+}
+
+#[test]
+fn a_copy_has_what_the_version_has(rt: HostRuntime) -> Result<(), Fail> {
+    let version = small(rt.alloc())?.copy()?;
+    assert_eq!(rt; version.globals().len(), 1);
+    assert_eq!(rt; version.literals().len(), 1);
+    assert_eq!(rt; version.functions().len(), 2);
+    assert_eq!(rt; version.points().updates(), 1);
+    assert_eq!(rt; version.types().type_count(), 4);
+    assert_eq!(rt; version.function(b"idle"), Some(1));
+    Ok(())
 }
