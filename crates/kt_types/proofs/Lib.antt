@@ -1,6 +1,7 @@
 pub mod Added
 pub mod Cells
 pub mod Complete
+pub mod Copies
 pub mod Counts
 pub mod Defined
 pub mod Fixed

@@ -1,3 +1,4 @@
+pub mod Copies
 pub mod Inside
 pub mod Kept
 pub mod Layout

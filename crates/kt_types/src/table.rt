@@ -4,6 +4,7 @@ ghost use Rattle.std.specs.List.Sorted.{IsNonDecreasing};
 ghost use Rattle.std.specs.Bool.{MatchBool};
 ghost use Rattle.std.specs.Option.{option_copied};
 ghost use Rattle.indexmap.specs.IndexMap.{index_map_len, set_value_at};
+ghost use Rattle.kt_types.specs.Copies.{IsCopy};
 ghost use Rattle.kt_types.specs.Kept.{AreNames, AreStarts, IsCounted, IsLaidOut, IsPart};
 ghost use Rattle.kt_types.specs.Layout.{cells, layout, joined, cell_limit, cells_before, field_named, CanDefine, IsComplete, IsFaulty, IsFitting, IsFixed, NamesPlaces};
 ghost use Rattle.kt_types.specs.Table.{Table, scalar_table, fields_of, with_type, with_struct, with_definition, HasDistinctNames, HasType, HasStruct};
@@ -51,6 +52,32 @@ impl Model for TypeTable {
     ghost view = { table_of };
 
     ghost invariant = { KeepsTable };
+}
+
+impl Clone for StructLayout {
+    ghost is_clone = { IsCopy };
+
+    fn clone(&self) -> Result<StructLayout, AllocError> {
+        Ok(StructLayout {
+            number: self.number,
+            fields: self.fields.clone()?,
+            names: self.names.clone()?,
+            starts: self.starts.clone()?,
+            cells: self.cells,
+        })
+    }
+}
+
+impl Clone for TypeTable {
+    ghost is_clone = { λ a b. b ≡ a };
+
+    fn clone(&self) -> Result<TypeTable, AllocError> {
+        Ok(TypeTable {
+            types: self.types.clone()?,
+            structs: self.structs.clone()?,
+            defined: self.defined.clone()?,
+        })
+    }
 }
 
 impl TypeTable {

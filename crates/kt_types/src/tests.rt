@@ -192,6 +192,8 @@ fn fields_are_found_by_name(rt: HostRuntime) -> Result<(), Fail> {
         view: View::One,
     };
     assert_eq!(rt; table.field_at(1, b"lock"), Some(lock));
+    let copy = table.clone()?;
+    assert_eq!(rt; copy.field_at(1, b"lock"), Some(lock));
     assert_eq!(rt; table.field_at(1, b"key"), None);
     assert_eq!(rt; table.field_at(2, b"lock"), None);
     assert!(rt; table.fields(1).is_some());

@@ -1,0 +1,4 @@
+pub mod Distinct
+pub mod Operands
+pub mod Places
+pub mod Small
