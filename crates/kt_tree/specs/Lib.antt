@@ -1,0 +1,5 @@
+pub mod Tree
+pub mod Kinds
+pub mod Typed
+pub mod Names
+pub mod Version
