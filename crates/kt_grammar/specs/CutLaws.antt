@@ -1,13 +1,12 @@
 -- How the answer on tokens that may be too deep is put together.
-use Rattle.std.specs.Prelude.{◌≡◌, ℕ, zero, suc, ◌+◌, ◌<◌, ◌≤◌, nat_lt, Bool, true, false, List, [], ◌∷◌, ◌++◌, map, length, Result, Ok, Err, if◌then◌else◌}
-use Rattle.std.specs.List.{AllByRecursion}
+use Rattle.std.specs.Prelude.{max, ◌≡◌, ℕ, suc, ◌+◌, ◌<◌, ◌≤◌, nat_lt, Bool, true, false, List, [], ◌∷◌, ◌++◌, length, Result, Ok, Err, if◌then◌else◌}
 use Rattle.std.proofs.Common.{refl, sym, ap, subst, ◌∙◌, arith, append_assoc}
 use Rattle.std.proofs.lemmas.List.{length-append}
 use Rattle.std.proofs.lemmas.Bool.Decides.{nat_tests}
 use Rattle.kt_grammar.specs.declared.fault.Fault.{Fault}
 use Rattle.kt_grammar.specs.declared.fault.Fault.TheVariants.{TooDeep}
 use Rattle.kt_grammar.specs.declared.symbol.Symbol.{Symbol}
-use Rattle.kt_grammar.specs.Marks.{Mark, Language, Joined, symbols_of, IsShallow, token}
+use Rattle.kt_grammar.specs.Marks.{Mark, symbols_of, IsShallow, token}
 use Rattle.kt_grammar.specs.Cursor.{◌>>=◌, unexpected}
 use Rattle.kt_grammar.specs.Laws.{Begins}
 use Rattle.kt_grammar.specs.Cut.{cut}
@@ -29,8 +28,9 @@ pub symbols_of-joined : (marks front back : List Mark) (rest : List Symbol) → 
 symbols_of-joined marks front back rest e =
     ap (λ m. symbols_of m ++ rest) e ∙ ap (λ l. l ++ rest) (symbols_of-append front back) ∙ append_assoc (symbols_of front) (symbols_of back) rest
 
-left_length : (marks : List Mark) (rest : List Symbol) → length (symbols_of marks ++ rest) ≡ length marks + length rest
-left_length marks rest = length-append (symbols_of marks) rest ∙ ap (λ n. n + length rest) (symbols_of-length marks)
+-- how many symbols stand before and in a rest
+pub symbols_of-rest : (marks : List Mark) (rest : List Symbol) → length (symbols_of marks ++ rest) ≡ length marks + length rest
+symbols_of-rest marks rest = length-append (symbols_of marks) rest ∙ ap (λ n. n + length rest) (symbols_of-length marks)
 
 -- ---- choices
 
@@ -39,10 +39,11 @@ pub if-bind : {A B : Type 0} (b : Bool) (e : Fault) (answer : Result A Fault) (n
 if-bind true e answer next = refl
 if-bind false e answer next = refl
 
--- `n < m` is no longer in doubt
+-- a test that passes
 pub nat_lt-true : (n m : ℕ) → n < m → nat_lt n m ≡ true
 nat_lt-true n m h = grind (arith, nat_tests)
 
+-- a test that does not pass
 pub nat_lt-false : (n m : ℕ) → m ≤ n → nat_lt n m ≡ false
 nat_lt-false n m h = grind (arith, nat_tests)
 
@@ -57,7 +58,7 @@ pub cut-deep : {A : Type 0} (limit : ℕ) (m : Mark) (marks : List Mark) (rest :
     → cut limit (m ∷ marks) rest answer ≡ Err (TooDeep (length (symbols_of (m ∷ marks) ++ rest)))
 cut-deep limit m marks rest answer h =
     ap (λ b. if b then Err (TooDeep (1 + (length marks + length rest))) else cut limit marks rest answer) (nat_lt-true limit m.depth h)
-    ∙ ap (λ n. Err (TooDeep n)) (let e : length (symbols_of marks ++ rest) ≡ length marks + length rest = left_length marks rest in omega arith)
+    ∙ ap (λ n. Err (TooDeep n)) (let e : length (symbols_of marks ++ rest) ≡ length marks + length rest = symbols_of-rest marks rest in omega arith)
 
 -- what is done behind the tokens is done behind the cut
 pub cut-bind : {A B : Type 0} (limit : ℕ) (marks : List Mark) (rest : List Symbol) (answer : Result A Fault) (next : A → Result B Fault)
@@ -74,7 +75,7 @@ cut-append limit [] back rest answer = refl
 cut-append limit (m ∷ front) back rest answer =
     let count : 1 + (length (front ++ back) + length rest) ≡ 1 + (length front + length (symbols_of back ++ rest)) =
     (let a : length (front ++ back) ≡ length front + length back = length-append front back in
-        let b : length (symbols_of back ++ rest) ≡ length back + length rest = left_length back rest in omega arith) in
+    let b : length (symbols_of back ++ rest) ≡ length back + length rest = symbols_of-rest back rest in omega arith) in
     ap (λ n. if nat_lt limit m.depth then Err (TooDeep n) else cut limit (front ++ back) rest answer) count
     ∙ ap (λ a. if nat_lt limit m.depth then Err (TooDeep (1 + (length front + length (symbols_of back ++ rest)))) else a) (cut-append limit front back rest answer)
 
@@ -82,6 +83,31 @@ cut-append limit (m ∷ front) back rest answer =
 pub cut-shallow : {A : Type 0} (limit : ℕ) (marks : List Mark) (rest : List Symbol) (answer : Result A Fault) → IsShallow limit marks → cut limit marks rest answer ≡ answer
 cut-shallow limit [] rest answer h = refl
 cut-shallow limit (m ∷ marks) rest answer h = cut-kept limit m marks rest answer h.0 ∙ cut-shallow limit marks rest answer h.1
+
+if-passed : {A : Type 0} (b : Bool) (e : Fault) (answer : Result A Fault) (x : A) → (if b then Err e else answer) ≡ Ok x → (b ≡ false) × (answer ≡ Ok x)
+if-passed true e answer x h = absurd cc
+if-passed false e answer x h = (refl, h)
+
+nat_lt-passed : (n m : ℕ) → nat_lt n m ≡ false → m ≤ n
+nat_lt-passed n m h = grind (arith, nat_tests)
+
+-- where something is answered, no token was too deep
+pub cut-passed : {A : Type 0} (limit : ℕ) (marks : List Mark) (rest : List Symbol) (answer : Result A Fault) (x : A) → cut limit marks rest answer ≡ Ok x → IsShallow limit marks × (answer ≡ Ok x)
+cut-passed limit [] rest answer x h = (tt, h)
+cut-passed limit (m ∷ marks) rest answer x h =
+    let first = if-passed (nat_lt limit m.depth) (TooDeep (1 + (length marks + length rest))) (cut limit marks rest answer) x h in
+    let others = cut-passed limit marks rest answer x first.1 in
+    ((nat_lt-passed limit m.depth first.0, others.0), others.1)
+
+-- the depth of the deepest token
+abbrev pub deepest : List Mark → ℕ
+deepest [] = 0
+deepest (m ∷ marks) = max m.depth (deepest marks)
+
+-- no token is deeper than the deepest
+pub deepest-shallow : (limit : ℕ) (marks : List Mark) → deepest marks ≤ limit → IsShallow limit marks
+deepest-shallow limit [] h = tt
+deepest-shallow limit (m ∷ marks) h = (omega arith, deepest-shallow limit marks (omega arith))
 
 -- none of joined tokens is too deep
 pub shallow-append : (limit : ℕ) (front back : List Mark) → IsShallow limit front → IsShallow limit back → IsShallow limit (front ++ back)
@@ -144,3 +170,21 @@ cut-none begins limit d marks rest answer deep b =
     ap (λ c. if c then Err (TooDeep (length (symbols_of marks ++ rest))) else unexpected (symbols_of marks ++ rest)) (begins-at (λ symbols. begins symbols ≡ true) d marks rest b)
     ∙ ap (λ m. Err (TooDeep (length (symbols_of m ++ rest)))) b.is
     ∙ sym (ap (λ m. cut limit m rest answer) b.is ∙ cut-deep limit (record { symbol = b.first; depth = d }) b.others rest answer deep)
+
+-- ---- steps of a reader
+
+-- a reader that is followed by another step reads the front, and the step reads the back
+pub cut-then : {A B : Type 0} (read : List Symbol → Result A Fault) (next : A → Result B Fault) (limit : ℕ) (marks front back : List Mark) (rest : List Symbol) (x : A) (answer : Result B Fault) → marks ≡ front ++ back
+    → read (symbols_of front ++ (symbols_of back ++ rest)) ≡ cut limit front (symbols_of back ++ rest) (Ok x)
+    → next x ≡ cut limit back rest answer
+    → (read (symbols_of marks ++ rest) >>= next) ≡ cut limit marks rest answer
+cut-then read next limit marks front back rest x answer parts h k =
+    cut-joined (λ s. read s >>= next) limit marks front back rest answer parts
+    (ap (λ r. r >>= next) h ∙ cut-bind limit front (symbols_of back ++ rest) (Ok x) next ∙ ap (λ a. cut limit front (symbols_of back ++ rest) a) k)
+
+-- a reader that reads all tokens, followed by a step that reads none
+pub cut-end : {A B : Type 0} (read : List Symbol → Result A Fault) (next : A → Result B Fault) (limit : ℕ) (marks : List Mark) (rest : List Symbol) (x : A) (answer : Result B Fault)
+    → read (symbols_of marks ++ rest) ≡ cut limit marks rest (Ok x) → next x ≡ answer
+    → (read (symbols_of marks ++ rest) >>= next) ≡ cut limit marks rest answer
+cut-end read next limit marks rest x answer h k =
+    ap (λ r. r >>= next) h ∙ cut-bind limit marks rest (Ok x) next ∙ ap (λ a. cut limit marks rest a) k

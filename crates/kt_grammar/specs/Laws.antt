@@ -1,32 +1,33 @@
 -- What is read is what is spelled: the laws of reading expressions.
-use Rattle.std.specs.Prelude.{◌≡◌, ℕ, zero, suc, ◌+◌, ◌≤◌, true, List, [], ◌∷◌, ◌++◌, Ok, Some, None, Option, if◌then◌else◌, ◌||◌}
+use Rattle.std.specs.Prelude.{◌≡◌, ℕ, ◌+◌, ◌≤◌, ◌<◌, true, List, [], ◌∷◌, ◌++◌, length, Ok, Err, Some, None, if◌then◌else◌, ◌&&◌}
 use Rattle.std.specs.Option.{is_some}
+use Rattle.kt_grammar.specs.declared.fault.Fault.{Fault}
+use Rattle.kt_grammar.specs.declared.fault.Fault.TheVariants.{Syntax, TooDeep, NoMemory}
 use Rattle.kt_grammar.specs.declared.operator.Dialect.{Dialect}
 use Rattle.kt_grammar.specs.declared.sign.Sign.{Sign}
 use Rattle.kt_grammar.specs.declared.sign.Sign.TheVariants as signs
 use Rattle.kt_grammar.specs.declared.symbol.Symbol.{Symbol}
 use Rattle.kt_grammar.specs.declared.symbol.Symbol.TheVariants as symbol
-use Rattle.kt_grammar.specs.declared.tree.Base.{Base}
-use Rattle.kt_grammar.specs.declared.tree.TypeName.{TypeName}
 use Rattle.kt_grammar.specs.Tree.{Term}
-use Rattle.kt_grammar.specs.Signs.{same_sign, precedence, assign_of, binary_of}
+use Rattle.kt_grammar.specs.Signs.{is_c, same_sign, precedence, assign_of, binary_of}
 use Rattle.kt_grammar.specs.Marks.{Mark, symbols_of, IsShallow}
-use Rattle.kt_grammar.specs.Spelling.{spells, spells_base, spells_type}
-use Rattle.kt_grammar.specs.Cursor.{Outcome, begins_sign}
-use Rattle.kt_grammar.specs.Reading.{begins_base, begins_expr, begins_postfix, base_at, expr_at}
+use Rattle.kt_grammar.specs.Spelling.{level, spells}
+use Rattle.kt_grammar.specs.Reading.{begins_expr, begins_postfix, expr_at}
 use Rattle.kt_grammar.specs.Cut.{cut}
 
 -- the level that an expression needs to be the left operand of a binary operator; 0 where the sign is none
 abbrev pub binary_needs : Sign → ℕ
 binary_needs s = elim (binary_of s) as (λ _. ℕ) [ None ↦ 0 | (Some op) ↦ precedence op ]
 
--- the level that an expression needs to be an operand of the operator that stands behind it; 0 where none stands there
+-- The level that an expression needs to be an operand of the operator that stands behind it; 0 where none stands there.
+-- Behind a name an opening parenthesis is a call's, in C, and no expression stands before one: 10, above all levels.
 unfoldable pub needs : Dialect → List Symbol → ℕ
 needs g (symbol.Sign at s ∷ rest) =
     if begins_postfix g (symbol.Sign at s ∷ rest) then 9
+    else (if is_c g && same_sign s signs.OpenParenthesis then 10
     else (if same_sign s signs.Question then 2
     else (if is_some (assign_of g s) then 1
-    else binary_needs s))
+    else binary_needs s)))
 needs g _ = 0
 
 -- an expression that is spelled is read back, unless a token of it is too deep
@@ -57,3 +58,34 @@ pub record Begins (begins : List Symbol → Type 0) (d : ℕ) (marks : List Mark
 
 abbrev pub ExprBegins : Type 0
 ExprBegins = (g : Dialect) (d : ℕ) (x : Term) (marks : List Mark) → spells g d x marks → Begins (λ symbols. begins_expr g symbols ≡ true) d marks
+
+-- the symbol at the front of the rest is that of the mark at the front, which is too deep
+abbrev pub IsTooDeep : ℕ → List Mark → List Symbol → Type 0
+IsTooDeep limit (m ∷ others) (s ∷ rest) = (m.symbol ≡ s) × (limit < m.depth)
+IsTooDeep limit _ _ = ⊥
+
+-- the fault tells how many symbols are left; where it is depth, what would go on there does so with the symbol there, too deep
+abbrev pub IsFaultAt : ℕ → List Mark → List Symbol → Fault → Type 0
+IsFaultAt limit others rest (Syntax left) = length rest ≡ left
+IsFaultAt limit others rest (TooDeep left) = (length rest ≡ left) × IsTooDeep limit others rest
+IsFaultAt limit others rest NoMemory = ⊥
+
+-- the symbols before the place of a fault begin something that would go on there, no token of them too deep
+pub record FaultStands (limit : ℕ) (language : List Mark → Type 0) (symbols : List Symbol) (fault : Fault) : Type 0 where
+  pub marks : List Mark
+  pub others : List Mark
+  pub rest : List Symbol
+  pub parts : symbols ≡ symbols_of marks ++ rest
+  pub shallow : IsShallow limit marks
+  pub begins : language (marks ++ others)
+  pub is_fault : IsFaultAt limit others rest fault
+
+-- what spells some expression of at least a level
+abbrev pub some_expr : Dialect → ℕ → ℕ → List Mark → Type 0
+some_expr g least d marks = (x : Term) × (least ≤ level x) × spells g d x marks
+
+-- where no expression is read, what stands before the place of the fault begins one
+abbrev pub ExprFaultStands : Type 0
+ExprFaultStands =
+    (g : Dialect) (n d : ℕ) (symbols : List Symbol) (fault : Fault)
+    → expr_at g n symbols ≡ Err fault → FaultStands (d + n) (some_expr g 0 d) symbols fault

@@ -9,3 +9,5 @@ pub mod Cut
 pub mod Laws
 pub mod StandsLaws
 pub mod CutLaws
+pub mod BackLaws
+pub mod FaultLaws

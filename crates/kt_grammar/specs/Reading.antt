@@ -1,9 +1,8 @@
 -- Expressions at the front of a list of symbols, with so many more constructs that may be opened.
-use Rattle.std.specs.Prelude.{◌≡◌, ℕ, zero, suc, ◌+◌, ◌-◌, ◌==◌, ◌&&◌, ◌||◌, not, Bool, true, false, List, [], ◌∷◌, ◌++◌, length, drop, Option, Some, None, Result, Ok, Err, if◌then◌else◌}
+use Rattle.std.specs.Prelude.{ℕ, zero, suc, ◌+◌, ◌-◌, ◌==◌, ◌&&◌, ◌||◌, not, Bool, true, false, List, [], ◌∷◌, length, drop, Option, Some, None, Result, Ok, Err, if◌then◌else◌}
 use Rattle.std.specs.Option.{is_some}
 use Rattle.kt_grammar.specs.declared.fault.Fault.{Fault}
-use Rattle.kt_grammar.specs.declared.fault.Fault.TheVariants.{Syntax, TooDeep}
-use Rattle.kt_grammar.specs.declared.keyword.Keyword.{Keyword}
+use Rattle.kt_grammar.specs.declared.fault.Fault.TheVariants.{TooDeep}
 use Rattle.kt_grammar.specs.declared.keyword.Keyword.TheVariants as keywords
 use Rattle.kt_grammar.specs.declared.keyword.RuleWord.{RuleWord}
 use Rattle.kt_grammar.specs.declared.keyword.RuleWord.TheVariants as rule
@@ -21,7 +20,6 @@ use Rattle.kt_grammar.specs.declared.tree.Base.TheVariants as base
 use Rattle.kt_grammar.specs.declared.tree.TypeName.{TypeName}
 use Rattle.kt_grammar.specs.Tree.{Term, Constant, Character, Text, Null, Eof, Named, Called, Parenthesised, SizeOf, RuleValue, OldSymbol, Transformed, Element, Member, Pointed, Stepped, Prefixed, Converted, Operated, Chosen, Assigned, terms_of}
 use Rattle.kt_grammar.specs.Signs.{is_c, same_sign, precedence, prefix_of, step_of, binary_of, assign_of}
-use Rattle.kt_grammar.specs.Spelling.{is_value}
 use Rattle.kt_grammar.specs.Cursor.{◌>>=◌, Outcome, unexpected, begins_sign, behind, name_at, count_sign, listed_at}
 
 -- ---- types
@@ -201,9 +199,10 @@ assign_here g _ = None
 
 -- binary operators of a level and their right operands, behind an expression
 unfoldable pub chain_at : Dialect → Option Readers → ℕ → Term → List Symbol → Outcome Term
-chain_at g r l x symbols = elim (binary_here l symbols) as (λ _. Outcome Term)
-    [ None ↦ Ok (x, symbols)
-    | (Some op) ↦ deep r (begins_expr g) (λ r rest. r.level (suc l) rest >>= λ y. r.chain l (Operated op x y.0) y.1) (drop 1 symbols) ]
+chain_at g r l x symbols = elim (binary_here l symbols) as (λ _. Outcome Term) [
+  | None ↦ Ok (x, symbols)
+  | (Some op) ↦ deep r (begins_expr g) (λ r rest. r.level (suc l) rest >>= λ y. r.chain l (Operated op x y.0) y.1) (drop 1 symbols)
+]
 
 unfoldable pub choice_at : Dialect → Option Readers → Term → List Symbol → Outcome Term
 choice_at g r x symbols =
@@ -212,9 +211,10 @@ choice_at g r x symbols =
     else Ok (x, symbols)
 
 unfoldable pub assignment_at : Dialect → Option Readers → Term → List Symbol → Outcome Term
-assignment_at g r x symbols = elim (assign_here g symbols) as (λ _. Outcome Term)
-    [ None ↦ Ok (x, symbols)
-    | (Some op) ↦ deep_level g r 0 (drop 1 symbols) >>= λ y. Ok (Assigned op x y.0, y.1) ]
+assignment_at g r x symbols = elim (assign_here g symbols) as (λ _. Outcome Term) [
+  | None ↦ Ok (x, symbols)
+  | (Some op) ↦ deep_level g r 0 (drop 1 symbols) >>= λ y. Ok (Assigned op x y.0, y.1)
+]
 
 -- what goes on at a level behind an expression of a higher one
 unfoldable pub tail_at : Dialect → Option Readers → ℕ → Term → List Symbol → Outcome Term

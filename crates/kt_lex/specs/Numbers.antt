@@ -49,4 +49,6 @@ without_suffix word = if has_suffix word then take (length word - 1) word else w
 -- A number has type `int` where it is at most 2,147,483,647 and has no suffix, else `long`.
 unfoldable pub number_value : List ℕ → Option Number
 number_value word =
-    option_and_then (λ n. Some (record { value = n; long = has_suffix word || nat_lt greatest_int n })) (value_of_digits (without_suffix word))
+    option_and_then
+    (λ n. Some (record { value = n; long = has_suffix word || nat_lt greatest_int n; hexadecimal = is_hexadecimal word }))
+    (value_of_digits (without_suffix word))

@@ -1,11 +1,13 @@
 ghost use Rattle.std.specs.Prelude.{◌≡◌, ◌≤◌, option_and_then, IfSome};
-ghost use Rattle.kt_lex.specs.Numbers.{greatest, value_in, at_most_greatest, value_of_digits, number_value};
+ghost use Rattle.kt_lex.specs.Numbers.{greatest, value_in, at_most_greatest, value_of_digits, number_value, is_hexadecimal};
 
 /// What a number stands for: at most 9,223,372,036,854,775,807, of type `long` or else `int`.
 #[derive(Clone, Copy, Debug, PartialEq, Eq)]
 pub struct Number {
     pub value: u64,
     pub long: bool,
+    /// It is spelled with `0x` or `0X`.
+    pub hexadecimal: bool,
 }
 
 /// What the spelling of a number stands for, or none where it spells no number.
@@ -22,7 +24,15 @@ pub fn number_of(spelling: &[u8]) -> Option<Number>
     Some(Number {
         value,
         long: suffixed || value > i32::MAX as u64,
+        hexadecimal: is_hexadecimal(spelling),
     })
+}
+
+#[tactic(auto, unfolding(crate::specs::Numbers::is_hexadecimal))]
+fn is_hexadecimal(word: &[u8]) -> bool
+    ensures { result ≡ is_hexadecimal word.now }
+{
+    matches!(word, [b'0', b'x' | b'X', ..])
 }
 
 #[tactic(auto, unfolding(crate::specs::Numbers::value_of_digits, crate::specs::Numbers::is_hexadecimal, crate::specs::Numbers::has_leading_zero))]

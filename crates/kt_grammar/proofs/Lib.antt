@@ -1,0 +1,7 @@
+pub mod Beginnings
+pub mod Fronts
+pub mod Resuming
+pub mod Back
+pub mod ExprFaults
+pub mod ExprStands
+mod Operators

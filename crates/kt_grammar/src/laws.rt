@@ -1,0 +1,7 @@
+ghost use Rattle.kt_grammar.specs.Laws.{ExprIsReadBack, ExprBegins};
+
+/// An expression that is spelled is read back, unless a token of it is too deep; what it is spelled by begins an expression.
+pub fn expr_laws()
+    ensures read_back { ExprIsReadBack }
+    ensures begins { ExprBegins }
+{}
