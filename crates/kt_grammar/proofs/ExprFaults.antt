@@ -1,5 +1,5 @@
 -- What stands before the place where an expression is not read begins one.
-use Rattle.std.proofs.Common.{◌≡◌, ℕ, zero, suc, ◌+◌, ◌-◌, ◌≤◌, ◌<◌, ◌&&◌, ◌||◌, Bool, true, false, not, cond, List, [], ◌∷◌, ◌++◌, length, drop, Option, Some, None, Result, Ok, Err, refl, sym, ap, ◌∙◌, subst, inl, inr, ◌⊎◌, arith, le_refl, append_assoc, append-nil, ◌==◌, nat_le, le-leb, le_of_eq}
+use Rattle.std.proofs.Common.{◌≡◌, ℕ, zero, suc, ◌+◌, ◌-◌, ◌≤◌, ◌<◌, ◌&&◌, ◌||◌, Bool, true, false, not, List, [], ◌∷◌, ◌++◌, length, drop, Option, Some, None, Result, Ok, Err, refl, sym, ap, ◌∙◌, subst, inl, inr, ◌⊎◌, arith, append_assoc, le-leb, le_of_eq}
 use Rattle.std.specs.Prelude.{if◌then◌else◌}
 use Rattle.std.specs.Option.{is_some}
 use Rattle.kt_grammar.specs.declared.fault.Fault.{Fault}
@@ -16,16 +16,16 @@ use Rattle.kt_grammar.specs.declared.operator.PrefixOperator.{PrefixOperator}
 use Rattle.kt_grammar.specs.declared.operator.BinaryOperator.{BinaryOperator}
 use Rattle.kt_grammar.specs.declared.tree.Name.{Name}
 use Rattle.kt_grammar.specs.Tree.{Term, Constant, Character, Text, Null, Eof, Named, Called, Parenthesised, SizeOf, RuleValue, OldSymbol, Transformed, Element, Member, Pointed, Stepped, Prefixed, Converted, Operated, Chosen, Assigned, Terms, Nothing, More, terms_of}
-use Rattle.kt_grammar.specs.Signs.{is_c, same_sign, prefix_sign, has_prefix, step_sign, binary_sign, assign_sign, precedence, prefix_of, step_of}
+use Rattle.kt_grammar.specs.Signs.{is_c, same_sign, prefix_sign, step_sign, binary_sign, assign_sign, precedence, prefix_of, step_of}
 use Rattle.kt_grammar.specs.Marks.{Mark, token, sign as sign_token, name, Joined, ◌·◌}
-use Rattle.kt_grammar.specs.Spelling.{level, links, links_at, between, spells_type, spells, arguments}
+use Rattle.kt_grammar.specs.Spelling.{level, links, links_at, spells, arguments}
 use Rattle.kt_grammar.specs.Cursor.{◌>>=◌, Outcome, unexpected, begins_sign, behind, name_at, listed_at}
 use Rattle.kt_grammar.specs.Reading.{Readers, begins_base, begins_expr, begins_postfix, type_at, between_at, deep, deep_level, more_at, index_at, stepped_at, postfix_at, arguments_at, named_at, old_symbol_at, transform_at, rule_at, primary_at, parenthesis_at, prefixed_at, unary_at, binary_here, assign_here, chain_at, choice_at, assignment_at, tail_at, climb_at, level_at, deeper, expr_at}
-use Rattle.kt_grammar.specs.Laws.{Stands, FaultStands, some_expr, ExprFaultStands}
-use Rattle.kt_grammar.specs.StandsLaws.{chosen, both_true, same_sign_is, token_stands, stands_joined, stands_as, begins_sign_stands, behind_stands, name_at_stands, type_at_stands, listed}
-use Rattle.kt_grammar.specs.FaultLaws.{no_fault, bind_err, unexpected_stands, too_deep_stands, fault_as, fault_before, fault_behind, sign_mark, behind_fault, blank_name, name_mark, some_name, name_at_fault, base_mark, some_type, is_blank_type, type_at_fault, between_at_fault, some_listed, listed_at_fault}
+use Rattle.kt_grammar.specs.Laws.{Stands, FaultStands, some_expr, ExprFaultStands, ExprGoesOn}
+use Rattle.kt_grammar.specs.StandsLaws.{chosen, both_true, same_sign_is, token_stands, stands_joined, stands_as, begins_sign_stands, behind_stands, name_at_stands, type_at_stands}
+use Rattle.kt_grammar.specs.FaultLaws.{no_fault, bind_err, unexpected_stands, too_deep_stands, fault_as, fault_before, fault_behind, sign_mark, behind_fault, blank_name, name_mark, some_name, name_at_fault, base_mark, some_type, is_blank_type, type_at_fault, between_at_fault, listed_at_fault}
 use Rattle.kt_grammar.proofs.Operators.{picked, prefix_of-is, step_of-is, sign_is_stands, binary_here-is, assign_here-is}
-use Rattle.kt_grammar.proofs.ExprStands.{continues, LevelStands, GoesOn, IsSound, AreSound, PrimaryStands, continued, deep_level-is, postfix_at-is, index_once, member_once, pointed_once, step_once, no_links, operated, deeper_link, chain_once, tail_at-is, listed_terms, arguments_at-is, primary_at-is, unary_at-is, deeper-is, listed_arguments}
+use Rattle.kt_grammar.proofs.ExprStands.{continues, LevelStands, GoesOn, IsSound, AreSound, continued, deep-is, deep_level-is, index_once, member_once, pointed_once, step_once, no_links, operated, deeper_link, chain_once, tail_at-is, listed_terms, primary_at-is, unary_at-is, deeper-is, listed_arguments}
 
 -- what makes of an expression any of at least a level
 abbrev some_more : Dialect → ℕ → ℕ → Term → List Mark → Type 0
@@ -89,72 +89,120 @@ some_of (Some x) e = (x, refl)
 
 begins_sign_expr : (g : Dialect) (d at : ℕ) (s : Sign) → (same_sign s sign.OpenParenthesis || is_some (prefix_of g s)) ≡ true → Beginning g d (symbol.Sign at s)
 begins_sign_expr g d at s e = elim (either_true (same_sign s sign.OpenParenthesis) (is_some (prefix_of g s)) e) [
-  | inl same ↦ subst (λ (s : Sign). Beginning g d (symbol.Sign at s)) (sym (same_sign_is s sign.OpenParenthesis same))
-      (name_mark (suc d) ++ sign_mark d sign.CloseParenthesis, (Parenthesised at (Named blank_name), omega arith, record {
+  | inl same ↦ subst (λ (s : Sign). Beginning g d (symbol.Sign at s)) (sym (same_sign_is s sign.OpenParenthesis same)) (
+    name_mark (suc d) ++ sign_mark d sign.CloseParenthesis,
+    (
+      Parenthesised at (Named blank_name),
+      omega arith,
+      record {
         front = record { symbol = symbol.Sign at sign.OpenParenthesis; depth = d } ∷ [];
         back = name_mark (suc d) ++ sign_mark d sign.CloseParenthesis;
         parts = refl;
         first = refl;
         second = record { front = name_mark (suc d); back = sign_mark d sign.CloseParenthesis; parts = refl; first = refl; second = (0, refl) };
-      }))
+      },
+    ),
+  )
   | inr known ↦
       let op = some_of (prefix_of g s) known in
       let is = prefix_of-is g s op.0 op.1 in
-      subst (λ (s : Sign). Beginning g d (symbol.Sign at s)) (sym is.0)
-      (name_mark (suc d), (Prefixed at op.0 (Named blank_name), omega arith, (is.1, (le-leb 8 9 (omega arith), record {
-        front = record { symbol = symbol.Sign at (prefix_sign op.0); depth = d } ∷ [];
-        back = name_mark (suc d);
-        parts = refl;
-        first = refl;
-        second = refl;
-      }))))
+      subst (λ (s : Sign). Beginning g d (symbol.Sign at s)) (sym is.0) (
+        name_mark (suc d),
+        (
+          Prefixed at op.0 (Named blank_name),
+          omega arith,
+          (
+            is.1,
+            (
+              le-leb 8 9 (omega arith),
+              record {
+                front = record { symbol = symbol.Sign at (prefix_sign op.0); depth = d } ∷ [];
+                back = name_mark (suc d);
+                parts = refl;
+                first = refl;
+                second = refl;
+              },
+            ),
+          ),
+        ),
+      )
 ]
 
 begins_rule_expr : (g : Dialect) (d at : ℕ) (word : RuleWord) → not (is_c g) ≡ true → Beginning g d (symbol.RuleWord at word)
 begins_rule_expr g d at rule.In e = ([], (RuleValue at rule.In, omega arith, (e, (refl, refl))))
 begins_rule_expr g d at rule.Out e = ([], (RuleValue at rule.Out, omega arith, (e, (refl, refl))))
 begins_rule_expr g d at rule.Base e = ([], (RuleValue at rule.Base, omega arith, (e, (refl, refl))))
-begins_rule_expr g d at rule.OldSymbol e = (sign_mark d sign.OpenParenthesis ++ name_mark d ++ sign_mark d sign.CloseParenthesis, (OldSymbol at blank_name, omega arith, (e, record {
-  front = record { symbol = symbol.RuleWord at rule.OldSymbol; depth = d } ∷ [];
-  back = sign_mark d sign.OpenParenthesis ++ name_mark d ++ sign_mark d sign.CloseParenthesis;
-  parts = refl;
-  first = refl;
-  second = record {
-    front = sign_mark d sign.OpenParenthesis;
-    back = name_mark d ++ sign_mark d sign.CloseParenthesis;
-    parts = refl;
-    first = (0, refl);
-    second = record { front = name_mark d; back = sign_mark d sign.CloseParenthesis; parts = refl; first = refl; second = (0, refl) };
-  };
-})))
-begins_rule_expr g d at rule.Transform e = (sign_mark d sign.OpenParenthesis ++ name_mark (suc d) ++ sign_mark d sign.CloseParenthesis, (Transformed at (Named blank_name), omega arith, (e, record {
-  front = record { symbol = symbol.RuleWord at rule.Transform; depth = d } ∷ [];
-  back = sign_mark d sign.OpenParenthesis ++ name_mark (suc d) ++ sign_mark d sign.CloseParenthesis;
-  parts = refl;
-  first = refl;
-  second = record {
-    front = sign_mark d sign.OpenParenthesis;
-    back = name_mark (suc d) ++ sign_mark d sign.CloseParenthesis;
-    parts = refl;
-    first = (0, refl);
-    second = record { front = name_mark (suc d); back = sign_mark d sign.CloseParenthesis; parts = refl; first = refl; second = (0, refl) };
-  };
-})))
+begins_rule_expr g d at rule.OldSymbol e = (
+  sign_mark d sign.OpenParenthesis ++ name_mark d ++ sign_mark d sign.CloseParenthesis,
+  (
+    OldSymbol at blank_name,
+    omega arith,
+    (
+      e,
+      record {
+        front = record { symbol = symbol.RuleWord at rule.OldSymbol; depth = d } ∷ [];
+        back = sign_mark d sign.OpenParenthesis ++ name_mark d ++ sign_mark d sign.CloseParenthesis;
+        parts = refl;
+        first = refl;
+        second = record {
+          front = sign_mark d sign.OpenParenthesis;
+          back = name_mark d ++ sign_mark d sign.CloseParenthesis;
+          parts = refl;
+          first = (0, refl);
+          second = record { front = name_mark d; back = sign_mark d sign.CloseParenthesis; parts = refl; first = refl; second = (0, refl) };
+        };
+      },
+    ),
+  ),
+)
+begins_rule_expr g d at rule.Transform e = (
+  sign_mark d sign.OpenParenthesis ++ name_mark (suc d) ++ sign_mark d sign.CloseParenthesis,
+  (
+    Transformed at (Named blank_name),
+    omega arith,
+    (
+      e,
+      record {
+        front = record { symbol = symbol.RuleWord at rule.Transform; depth = d } ∷ [];
+        back = sign_mark d sign.OpenParenthesis ++ name_mark (suc d) ++ sign_mark d sign.CloseParenthesis;
+        parts = refl;
+        first = refl;
+        second = record {
+          front = sign_mark d sign.OpenParenthesis;
+          back = name_mark (suc d) ++ sign_mark d sign.CloseParenthesis;
+          parts = refl;
+          first = (0, refl);
+          second = record { front = name_mark (suc d); back = sign_mark d sign.CloseParenthesis; parts = refl; first = refl; second = (0, refl) };
+        };
+      },
+    ),
+  ),
+)
 
 begins_size_of : (g : Dialect) (d at : ℕ) → is_c g ≡ true → Beginning g d (symbol.Keyword at keywords.SizeOf)
-begins_size_of g d at e = (sign_mark d sign.OpenParenthesis ++ base_mark d ++ sign_mark d sign.CloseParenthesis, (SizeOf at (is_blank_type d).0, omega arith, (e, record {
-  front = record { symbol = symbol.Keyword at keywords.SizeOf; depth = d } ∷ [];
-  back = sign_mark d sign.OpenParenthesis ++ base_mark d ++ sign_mark d sign.CloseParenthesis;
-  parts = refl;
-  first = refl;
-  second = record {
-    front = sign_mark d sign.OpenParenthesis;
-    back = base_mark d ++ sign_mark d sign.CloseParenthesis;
-    parts = refl;
-    first = (0, refl);
-    second = record { front = base_mark d; back = sign_mark d sign.CloseParenthesis; parts = refl; first = (is_blank_type d).1; second = (0, refl) };
-  };
-})))
+begins_size_of g d at e = (
+  sign_mark d sign.OpenParenthesis ++ base_mark d ++ sign_mark d sign.CloseParenthesis,
+  (
+    SizeOf at (is_blank_type d).0,
+    omega arith,
+    (
+      e,
+      record {
+        front = record { symbol = symbol.Keyword at keywords.SizeOf; depth = d } ∷ [];
+        back = sign_mark d sign.OpenParenthesis ++ base_mark d ++ sign_mark d sign.CloseParenthesis;
+        parts = refl;
+        first = refl;
+        second = record {
+          front = sign_mark d sign.OpenParenthesis;
+          back = base_mark d ++ sign_mark d sign.CloseParenthesis;
+          parts = refl;
+          first = (0, refl);
+          second = record { front = base_mark d; back = sign_mark d sign.CloseParenthesis; parts = refl; first = (is_blank_type d).1; second = (0, refl) };
+        };
+      },
+    ),
+  ),
+)
 
 begins_expr-is : (g : Dialect) (d : ℕ) (s : Symbol) (rest : List Symbol) → begins_expr g (s ∷ rest) ≡ true → Beginning g d s
 unfolding begins_expr
@@ -208,23 +256,35 @@ PostfixBeginning g start d x s = (others : List Mark) × some_more g 9 start x (
 
 module _ (g : Dialect) (start : ℕ) (x : Term) (h : 9 ≤ level x) where
   indexed : (marks : List Mark) → Joined (sign_token (start + links x) sign.OpenBracket) (some_expr g 0 (suc (start + links x)) · sign_token (start + links x) sign.CloseBracket) marks → some_more g 9 start x marks
-  indexed marks j = (Element x j.second.first.0, omega arith,
+  indexed marks j = (
+    Element x j.second.first.0,
+    omega arith,
     continued g start x (Element x j.second.first.0) (sign_token (start + links x) sign.OpenBracket · spells g (suc (start + links x)) j.second.first.0 · sign_token (start + links x) sign.CloseBracket)
-      (λ m k. (le-leb 9 (level x) h, k)) marks
-      (record {
-        front = j.front; back = j.back; parts = j.parts; first = j.first;
-        second = record { front = j.second.front; back = j.second.back; parts = j.second.parts; first = j.second.first.2; second = j.second.second };
-      }))
+        (λ m k. (le-leb 9 (level x) h, k)) marks
+        (record {
+          front = j.front;
+          back = j.back;
+          parts = j.parts;
+          first = j.first;
+          second = record { front = j.second.front; back = j.second.back; parts = j.second.parts; first = j.second.first.2; second = j.second.second };
+        }),
+  )
 
   membered : (marks : List Mark) → Joined (sign_token (start + links x) sign.Dot) (some_name (start + links x)) marks → some_more g 9 start x marks
-  membered marks j = (Member x j.second.0, omega arith,
+  membered marks j = (
+    Member x j.second.0,
+    omega arith,
     continued g start x (Member x j.second.0) (sign_token (start + links x) sign.Dot · name (start + links x) j.second.0) (λ m k. (le-leb 9 (level x) h, k)) marks
-      (record { front = j.front; back = j.back; parts = j.parts; first = j.first; second = j.second.1 }))
+        (record { front = j.front; back = j.back; parts = j.parts; first = j.first; second = j.second.1 }),
+  )
 
   pointed : (marks : List Mark) → Joined (sign_token (start + links x) sign.Arrow) (some_name (start + links x)) marks → some_more g 9 start x marks
-  pointed marks j = (Pointed x j.second.0, omega arith,
+  pointed marks j = (
+    Pointed x j.second.0,
+    omega arith,
     continued g start x (Pointed x j.second.0) (sign_token (start + links x) sign.Arrow · name (start + links x) j.second.0) (λ m k. (le-leb 9 (level x) h, k)) marks
-      (record { front = j.front; back = j.back; parts = j.parts; first = j.first; second = j.second.1 }))
+        (record { front = j.front; back = j.back; parts = j.parts; first = j.first; second = j.second.1 }),
+  )
 
   named_behind : (at : ℕ) (s : Sign) → Joined (sign_token (start + links x) s) (some_name (start + links x)) (record { symbol = symbol.Sign at s; depth = start + links x } ∷ name_mark (start + links x))
   named_behind at s = record {
@@ -237,20 +297,22 @@ module _ (g : Dialect) (start : ℕ) (x : Term) (h : 9 ≤ level x) where
 
   begins_postfix_sign : (at : ℕ) (s : Sign) → (same_sign s sign.OpenBracket || same_sign s sign.Dot || same_sign s sign.Arrow || is_some (step_of g s)) ≡ true → PostfixBeginning g start (start + links x) x (symbol.Sign at s)
   begins_postfix_sign at s e = elim (one_of_four (same_sign s sign.OpenBracket) (same_sign s sign.Dot) (same_sign s sign.Arrow) (is_some (step_of g s)) e) [
-    | inl a ↦ subst (λ (s : Sign). PostfixBeginning g start (start + links x) x (symbol.Sign at s)) (sym (same_sign_is s sign.OpenBracket a))
-        (name_mark (suc (start + links x)) ++ sign_mark (start + links x) sign.CloseBracket, indexed _ (record {
-          front = record { symbol = symbol.Sign at sign.OpenBracket; depth = start + links x } ∷ [];
-          back = name_mark (suc (start + links x)) ++ sign_mark (start + links x) sign.CloseBracket;
+    | inl a ↦ subst (λ (s : Sign). PostfixBeginning g start (start + links x) x (symbol.Sign at s)) (sym (same_sign_is s sign.OpenBracket a)) (
+      name_mark (suc (start + links x)) ++ sign_mark (start + links x) sign.CloseBracket,
+      indexed _ (record {
+        front = record { symbol = symbol.Sign at sign.OpenBracket; depth = start + links x } ∷ [];
+        back = name_mark (suc (start + links x)) ++ sign_mark (start + links x) sign.CloseBracket;
+        parts = refl;
+        first = (at, refl);
+        second = record {
+          front = name_mark (suc (start + links x));
+          back = sign_mark (start + links x) sign.CloseBracket;
           parts = refl;
-          first = (at, refl);
-          second = record {
-            front = name_mark (suc (start + links x));
-            back = sign_mark (start + links x) sign.CloseBracket;
-            parts = refl;
-            first = blank_expr g 0 (suc (start + links x)) (omega arith);
-            second = (0, refl);
-          };
-        }))
+          first = blank_expr g 0 (suc (start + links x)) (omega arith);
+          second = (0, refl);
+        };
+      }),
+    )
     | inr a ↦ elim a [
       | inl b ↦ subst (λ (s : Sign). PostfixBeginning g start (start + links x) x (symbol.Sign at s)) (sym (same_sign_is s sign.Dot b))
           (name_mark (start + links x), membered _ (named_behind at sign.Dot))
@@ -358,10 +420,13 @@ module _ (g : Dialect) (limit start : ℕ) (r : Option Readers) (x : Term) (h : 
 -- the operator of a level and any right operand, behind the left one
 some_operated : (g : Dialect) (start l : ℕ) (op : BinaryOperator) (x : Term) → precedence op ≡ l → l ≤ level x → (marks : List Mark)
     → Joined (sign_token (start + links_at l x) (binary_sign op)) (some_expr g (suc l) (suc (start + links_at l x))) marks → some_more g l start x marks
-some_operated g start l op x is h marks j = (Operated op x j.second.0, le_of_eq (sym is),
+some_operated g start l op x is h marks j = (
+  Operated op x j.second.0,
+  le_of_eq (sym is),
   continued g start x (Operated op x j.second.0) (sign_token (start + links_at l x) (binary_sign op) · spells g (suc (start + links_at l x)) j.second.0)
-    (operated g start l op x j.second.0 is h j.second.1) marks
-    (record { front = j.front; back = j.back; parts = j.parts; first = j.first; second = j.second.2 }))
+      (operated g start l op x j.second.0 is h j.second.1) marks
+      (record { front = j.front; back = j.back; parts = j.parts; first = j.first; second = j.second.2 }),
+)
 
 module _ (g : Dialect) (limit start l : ℕ) (x : Term) (small : l ≤ 7) (h : l ≤ level x) where
   chain_fault_with : (r : Readers) (symbols : List Symbol) (op : BinaryOperator) (fault : Fault) → IsSound g limit (suc (start + links_at l x)) r → FaultsStand g limit (suc (start + links_at l x)) r
@@ -396,16 +461,24 @@ module _ (g : Dialect) (limit d : ℕ) (r : Option Readers) (within : d ≤ limi
       → Joined (sign_token d sign.Question) (some_expr g 0 (suc d) · sign_token d sign.Colon · some_expr g 1 (suc d)) marks → some_more g 1 d x marks
   some_choice x h marks j =
       let a = j.second.first in
-      let b = j.second.second.second in
-      (Chosen x a.0 b.0, omega arith,
+      let b = j.second.second.second in (
+        Chosen x a.0 b.0,
+        omega arith,
         continued g d x (Chosen x a.0 b.0) (sign_token d sign.Question · spells g (suc d) a.0 · sign_token d sign.Colon · spells g (suc d) b.0) (λ m k. (le-leb 2 (level x) h, (le-leb 1 (level b.0) b.1, k))) marks
-          (record {
-            front = j.front; back = j.back; parts = j.parts; first = j.first;
-            second = record {
-              front = j.second.front; back = j.second.back; parts = j.second.parts; first = a.2;
-              second = record { front = j.second.second.front; back = j.second.second.back; parts = j.second.second.parts; first = j.second.second.first; second = b.2 };
-            };
-          }))
+            (record {
+              front = j.front;
+              back = j.back;
+              parts = j.parts;
+              first = j.first;
+              second = record {
+                front = j.second.front;
+                back = j.second.back;
+                parts = j.second.parts;
+                first = a.2;
+                second = record { front = j.second.second.front; back = j.second.second.back; parts = j.second.second.parts; first = j.second.second.first; second = b.2 };
+              };
+            }),
+      )
 
   choice_at_fault : (x : Term) (symbols : List Symbol) (fault : Fault) → 2 ≤ level x → choice_at g r x symbols ≡ Err fault → FaultStands limit (some_more g 1 d x) symbols fault
   unfolding choice_at
@@ -433,9 +506,12 @@ module _ (g : Dialect) (limit d : ℕ) (r : Option Readers) (within : d ≤ limi
         let front = assign_here-is limit d g symbols some.0 within some.1 in
         elim (bind_err (deep_level g r 0 (drop 1 symbols)) _ fault some.2) [
           | inl w ↦ fault_as (some_more g 0 d x)
-              (λ m j. (Assigned some.0 x j.second.0, omega arith,
+              (λ m j. (
+                Assigned some.0 x j.second.0,
+                omega arith,
                 continued g d x (Assigned some.0 x j.second.0) (sign_token d (assign_sign some.0) · spells g (suc d) j.second.0) (λ m k. (front.0, (le-leb 1 (level x) h, k))) m
-                  (record { front = j.front; back = j.back; parts = j.parts; first = j.first; second = j.second.2 })))
+                    (record { front = j.front; back = j.back; parts = j.parts; first = j.first; second = j.second.2 }),
+              ))
               (fault_behind front.1 (deep_level_fault g limit (suc d) r faults 0 (drop 1 symbols) fault (omega arith) w))
           | inr w ↦ no_fault _ fault w.2
         ]
@@ -459,3 +535,408 @@ module _ (g : Dialect) (limit d : ℕ) (r : Option Readers) (within : d ≤ limi
         let one = tail_at-is g limit d r within sound (least + n) x symbols s.0 (omega arith) (omega arith) s.1 in
         fault_goes_on g limit d (least + n) least x symbols s.0 fault one (climb_at_fault least n s.0.0 s.0.1 fault (omega arith) one.at_least s.2)
   ]
+
+-- ---- primary expressions
+
+-- any arguments
+abbrev some_arguments : Dialect → ℕ → List Mark → Type 0
+some_arguments g d marks = (args : Terms) × arguments g d args marks
+
+module _ (g : Dialect) (limit d : ℕ) (r : Option Readers) (within : d ≤ limit) (sound : AreSound g limit (suc d) r) (faults : AreFaulty g limit (suc d) r) where
+  -- an expression that must be there, and the sign behind it
+  inside_fault : (symbols : List Symbol) (fault : Fault) (C : List Mark → Type 0) → (f : (marks : List Mark) → Joined (some_expr g 0 (suc d)) (sign_token d sign.CloseParenthesis) marks → C marks)
+      → deep_level g r 0 symbols ≡ Err fault → FaultStands limit C symbols fault
+  inside_fault symbols fault C f e = fault_as C f (fault_before (sign_token d sign.CloseParenthesis) (sign_mark d sign.CloseParenthesis) (0, refl) (deep_level_fault g limit (suc d) r faults 0 symbols fault (omega arith) e))
+
+  listed_fault : (s : Readers) → r ≡ Some s → (symbols : List Symbol) (fault : Fault) → listed_at (s.level 0) (length symbols) [] symbols ≡ Err fault → FaultStands limit (some_arguments g (suc d)) symbols fault
+  listed_fault s is symbols fault e =
+      let one : IsSound g limit (suc d) s = subst (AreSound g limit (suc d)) is sound in
+      let bad : FaultsStand g limit (suc d) s = subst (AreFaulty g limit (suc d)) is faults in
+      fault_as (some_arguments g (suc d)) (λ m l. (terms_of (l.0 ∷ l.1), listed_arguments g (suc d) (l.0 ∷ l.1) m l.2))
+      (listed_at_fault limit (suc d) (spells g (suc d)) (s.level 0) one.within
+      (λ symbols x e. (one.level_is 0 symbols x (omega arith) e).stands)
+      (λ symbols fault e. fault_as (λ m. (x : Term) × spells g (suc d) x m) (λ m s. (s.0, s.2)) (bad.level_is 0 symbols fault (omega arith) e))
+      (Named blank_name) (name_mark (suc d)) refl (length symbols) [] symbols fault e)
+
+  arguments_at_fault : (symbols : List Symbol) (fault : Fault) → arguments_at g r symbols ≡ Err fault → FaultStands limit (some_arguments g (suc d) · sign_token d sign.CloseParenthesis) symbols fault
+  unfolding arguments_at
+  arguments_at_fault symbols fault e =
+      let read : Readers → List Symbol → Outcome (List Term) = λ r. listed_at (r.level 0) (length symbols) [] in
+      let closing : FaultStands limit (some_arguments g (suc d)) symbols fault → FaultStands limit (some_arguments g (suc d) · sign_token d sign.CloseParenthesis) symbols fault
+      = fault_before (sign_token d sign.CloseParenthesis) (sign_mark d sign.CloseParenthesis) (0, refl) in
+      elim (chosen (begins_sign sign.CloseParenthesis symbols) _ _ (Err fault) e) [
+        | inl c ↦ no_fault _ fault c.1
+        | inr c ↦ elim (bind_err (deep r (begins_expr g) read symbols) _ fault c.1) [
+          | inl w ↦ elim (deep_err r (begins_expr g) read symbols fault w) [
+            | inl v ↦ closing (fault_as (some_arguments g (suc d)) (λ m s. (More s.0 Nothing, s.2))
+                (too_deep_expr g limit (suc d) 0 (omega arith) (subst (AreFaulty g limit (suc d)) v.0 faults) symbols fault v.1))
+            | inr v ↦ closing (listed_fault v.0 v.1 symbols fault v.2)
+          ]
+          | inr a ↦
+              let s = deep-is r (begins_expr g) read symbols a.0 a.1 in
+              elim (bind_err (behind sign.CloseParenthesis a.0.1) _ fault a.2) [
+                | inl w ↦ fault_behind (stands_as (some_arguments g (suc d)) (λ m k. (terms_of a.0.0, k)) (listed_terms g limit d r within sound s.0 s.1 symbols a.0 s.2))
+                    (behind_fault limit d sign.CloseParenthesis a.0.1 fault w)
+                | inr w ↦ no_fault _ fault w.2
+              ]
+        ]
+      ]
+
+  named_at_fault : (n : Name) (symbols rest : List Symbol) (fault : Fault) → Stands limit (name d n) symbols rest → named_at g r n rest ≡ Err fault → FaultStands limit (some_expr g 8 d) symbols fault
+  unfolding named_at
+  named_at_fault n symbols rest fault named e = elim (chosen (is_c g && begins_sign sign.OpenParenthesis rest) _ _ (Err fault) e) [
+    | inl c ↦
+        let both = both_true (is_c g) (begins_sign sign.OpenParenthesis rest) c.0 in
+        elim (bind_err (arguments_at g r (drop 1 rest)) _ fault c.1) [
+          | inl w ↦ fault_as (some_expr g 8 d)
+              (λ m j. (
+                Called n j.second.second.first.0,
+                omega arith,
+                (
+                  both.0,
+                  record {
+                    front = j.front;
+                    back = j.back;
+                    parts = j.parts;
+                    first = j.first;
+                    second = record {
+                      front = j.second.front;
+                      back = j.second.back;
+                      parts = j.second.parts;
+                      first = j.second.first;
+                      second = record {
+                        front = j.second.second.front;
+                        back = j.second.second.back;
+                        parts = j.second.second.parts;
+                        first = j.second.second.first.1;
+                        second = j.second.second.second;
+                      };
+                    };
+                  },
+                ),
+              ))
+              (fault_behind named (fault_behind (begins_sign_stands limit d sign.OpenParenthesis rest within both.1) (arguments_at_fault (drop 1 rest) fault w)))
+          | inr w ↦ no_fault _ fault w.2
+        ]
+    | inr c ↦ no_fault _ fault c.1
+  ]
+
+  old_symbol_at_fault : (at : ℕ) (rest : List Symbol) (fault : Fault) → is_c g ≡ false → old_symbol_at at rest ≡ Err fault → FaultStands limit (some_expr g 8 d) (symbol.RuleWord at rule.OldSymbol ∷ rest) fault
+  unfolding old_symbol_at
+  old_symbol_at_fault at rest fault rules e = fault_as (some_expr g 8 d)
+      (λ m j. (
+        OldSymbol at j.second.second.first.0,
+        omega arith,
+        (
+          ap not rules,
+          record {
+            front = j.front;
+            back = j.back;
+            parts = j.parts;
+            first = j.first;
+            second = record {
+              front = j.second.front;
+              back = j.second.back;
+              parts = j.second.parts;
+              first = j.second.first;
+              second = record {
+                front = j.second.second.front;
+                back = j.second.second.back;
+                parts = j.second.second.parts;
+                first = j.second.second.first.1;
+                second = j.second.second.second;
+              };
+            };
+          },
+        ),
+      ))
+      (fault_behind (token_stands limit d (symbol.RuleWord at rule.OldSymbol) rest within) (elim (bind_err (behind sign.OpenParenthesis rest) _ fault e) [
+        | inl w ↦ fault_before (some_name d · sign_token d sign.CloseParenthesis) (name_mark d ++ sign_mark d sign.CloseParenthesis)
+            (record { front = name_mark d; back = sign_mark d sign.CloseParenthesis; parts = refl; first = (blank_name, refl); second = (0, refl) })
+            (behind_fault limit d sign.OpenParenthesis rest fault w)
+        | inr o ↦ fault_behind (behind_stands limit d sign.OpenParenthesis rest o.0 within o.1) (elim (bind_err (name_at o.0) _ fault o.2) [
+          | inl w ↦ fault_before (sign_token d sign.CloseParenthesis) (sign_mark d sign.CloseParenthesis) (0, refl) (name_at_fault limit d o.0 fault w)
+          | inr n ↦ fault_behind (stands_as (some_name d) (λ m k. (n.0.0, k)) (name_at_stands limit d o.0 n.0 within n.1)) (elim (bind_err (behind sign.CloseParenthesis n.0.1) _ fault n.2) [
+            | inl w ↦ behind_fault limit d sign.CloseParenthesis n.0.1 fault w
+            | inr w ↦ no_fault _ fault w.2
+          ])
+        ])
+      ]))
+
+  transform_at_fault : (at : ℕ) (rest : List Symbol) (fault : Fault) → is_c g ≡ false → transform_at g r at rest ≡ Err fault → FaultStands limit (some_expr g 8 d) (symbol.RuleWord at rule.Transform ∷ rest) fault
+  unfolding transform_at
+  transform_at_fault at rest fault rules e = fault_as (some_expr g 8 d)
+      (λ m j. (
+        Transformed at j.second.second.first.0,
+        omega arith,
+        (
+          ap not rules,
+          record {
+            front = j.front;
+            back = j.back;
+            parts = j.parts;
+            first = j.first;
+            second = record {
+              front = j.second.front;
+              back = j.second.back;
+              parts = j.second.parts;
+              first = j.second.first;
+              second = record {
+                front = j.second.second.front;
+                back = j.second.second.back;
+                parts = j.second.second.parts;
+                first = j.second.second.first.2;
+                second = j.second.second.second;
+              };
+            };
+          },
+        ),
+      ))
+      (fault_behind (token_stands limit d (symbol.RuleWord at rule.Transform) rest within) (elim (bind_err (behind sign.OpenParenthesis rest) _ fault e) [
+        | inl w ↦ fault_before (some_expr g 0 (suc d) · sign_token d sign.CloseParenthesis) (name_mark (suc d) ++ sign_mark d sign.CloseParenthesis)
+            (record { front = name_mark (suc d); back = sign_mark d sign.CloseParenthesis; parts = refl; first = blank_expr g 0 (suc d) (omega arith); second = (0, refl) })
+            (behind_fault limit d sign.OpenParenthesis rest fault w)
+        | inr o ↦ fault_behind (behind_stands limit d sign.OpenParenthesis rest o.0 within o.1) (elim (bind_err (deep_level g r 0 o.0) _ fault o.2) [
+          | inl w ↦ fault_before (sign_token d sign.CloseParenthesis) (sign_mark d sign.CloseParenthesis) (0, refl) (deep_level_fault g limit (suc d) r faults 0 o.0 fault (omega arith) w)
+          | inr a ↦ fault_behind (some_level g limit (suc d) 0 o.0 a.0 (deep_level-is g limit (suc d) r sound 0 o.0 a.0 (omega arith) a.1)) (elim (bind_err (behind sign.CloseParenthesis a.0.1) _ fault a.2) [
+            | inl w ↦ behind_fault limit d sign.CloseParenthesis a.0.1 fault w
+            | inr w ↦ no_fault _ fault w.2
+          ])
+        ])
+      ]))
+
+  rule_at_fault : (at : ℕ) (word : RuleWord) (rest : List Symbol) (fault : Fault) → is_c g ≡ false → rule_at g r at word rest ≡ Err fault → FaultStands limit (some_expr g 8 d) (symbol.RuleWord at word ∷ rest) fault
+  unfolding rule_at
+  rule_at_fault at rule.In rest fault rules e = no_fault _ fault e
+  rule_at_fault at rule.Out rest fault rules e = no_fault _ fault e
+  rule_at_fault at rule.Base rest fault rules e = no_fault _ fault e
+  rule_at_fault at rule.OldSymbol rest fault rules e = old_symbol_at_fault at rest fault rules e
+  rule_at_fault at rule.Transform rest fault rules e = transform_at_fault at rest fault rules e
+
+  size_of_at_fault : (at : ℕ) (rest : List Symbol) (fault : Fault) → is_c g ≡ true → ◌≡◌ {A = Outcome Term} (between_at rest >>= λ t. Ok (SizeOf at t.0, t.1)) (Err fault) → FaultStands limit (some_expr g 8 d) (symbol.Keyword at keywords.SizeOf ∷ rest) fault
+  size_of_at_fault at rest fault c e = elim (bind_err (between_at rest) _ fault e) [
+    | inl w ↦ fault_as (some_expr g 8 d)
+        (λ m j. (
+          SizeOf at j.second.second.first.0,
+          omega arith,
+          (
+            c,
+            record {
+              front = j.front;
+              back = j.back;
+              parts = j.parts;
+              first = j.first;
+              second = record {
+                front = j.second.front;
+                back = j.second.back;
+                parts = j.second.parts;
+                first = j.second.first;
+                second = record {
+                  front = j.second.second.front;
+                  back = j.second.second.back;
+                  parts = j.second.second.parts;
+                  first = j.second.second.first.1;
+                  second = j.second.second.second;
+                };
+              };
+            },
+          ),
+        ))
+        (fault_behind (token_stands limit d (symbol.Keyword at keywords.SizeOf) rest within) (between_at_fault limit d rest fault within w))
+    | inr w ↦ no_fault _ fault w.2
+  ]
+
+  -- no expression begins here, but one could
+  no_expr : {A : Type 0} (symbols : List Symbol) (fault : Fault) → ◌≡◌ {A = Result A Fault} (unexpected symbols) (Err fault) → FaultStands limit (some_expr g 8 d) symbols fault
+  no_expr symbols fault e = unexpected_stands limit (some_expr g 8 d) (name_mark d) symbols fault (blank_expr g 8 d (omega arith)) e
+
+  primary_at_fault : (symbols : List Symbol) (fault : Fault) → primary_at g r symbols ≡ Err fault → FaultStands limit (some_expr g 8 d) symbols fault
+  unfolding primary_at
+  primary_at_fault [] fault e = no_expr [] fault e
+  primary_at_fault (symbol.Name at word ∷ rest) fault e =
+      named_at_fault (record { at = at; word = word }) (symbol.Name at word ∷ rest) rest fault (token_stands limit d (symbol.Name at word) rest within) e
+  primary_at_fault (symbol.Keyword at keywords.Null ∷ rest) fault e = no_fault _ fault e
+  primary_at_fault (symbol.Keyword at keywords.Eof ∷ rest) fault e = no_fault _ fault e
+  primary_at_fault (symbol.Keyword at keywords.SizeOf ∷ rest) fault e = elim (chosen (is_c g) _ _ (Err fault) e) [
+    | inl c ↦ size_of_at_fault at rest fault c.0 c.1
+    | inr c ↦ no_expr (symbol.Keyword at keywords.SizeOf ∷ rest) fault c.1
+  ]
+  primary_at_fault (symbol.Keyword at other ∷ rest) fault e = no_expr (symbol.Keyword at other ∷ rest) fault e
+  primary_at_fault (symbol.Number at n ∷ rest) fault e = no_fault _ fault e
+  primary_at_fault (symbol.Character at b ∷ rest) fault e = no_fault _ fault e
+  primary_at_fault (symbol.Text at bytes ∷ rest) fault e = elim (chosen (is_c g) _ _ (Err fault) e) [
+    | inl c ↦ no_fault _ fault c.1
+    | inr c ↦ no_expr (symbol.Text at bytes ∷ rest) fault c.1
+  ]
+  primary_at_fault (symbol.RuleWord at word ∷ rest) fault e = elim (chosen (is_c g) _ _ (Err fault) e) [
+    | inl c ↦ no_expr (symbol.RuleWord at word ∷ rest) fault c.1
+    | inr c ↦ rule_at_fault at word rest fault c.0 c.1
+  ]
+  primary_at_fault (symbol.Sign at s ∷ rest) fault e = no_expr (symbol.Sign at s ∷ rest) fault e
+  primary_at_fault (symbol.Other at ∷ rest) fault e = no_expr (symbol.Other at ∷ rest) fault e
+
+  -- ---- unary expressions
+
+  -- what is at fault behind a primary expression
+  postfix_fault : (symbols : List Symbol) (x : Term × List Symbol) (fault : Fault) → Stands limit (spells g d x.0) symbols x.1 → level x.0 ≡ 9 → links x.0 ≡ 0 → postfix_at g r x.0 x.1 ≡ Err fault → FaultStands limit (some_expr g 8 d) symbols fault
+  postfix_fault symbols x fault s l none e =
+      let at : d ≡ d + links x.0 = omega arith in
+      let on = postfix_at_fault g limit d r x.0 (omega arith) (omega arith) (subst (λ (d : ℕ). AreSound g limit (suc d) r) at sound) (subst (λ (d : ℕ). AreFaulty g limit (suc d) r) at faults) x.1 fault e in
+      fault_as (some_expr g 8 d) (lower_expr g 9 8 d (omega arith)) (fault_goes_behind g limit d 9 symbols x fault s on)
+
+  cast_at_fault : (at : ℕ) (rest : List Symbol) (fault : Fault)
+      → ◌≡◌ {A = Outcome Term} (type_at rest >>= λ t. behind sign.CloseParenthesis t.1 >>= λ rest. deep_level g r 8 rest >>= λ a. Ok (Converted at t.0 a.0, a.1)) (Err fault)
+      → FaultStands limit (some_expr g 8 d) (symbol.Sign at sign.OpenParenthesis ∷ rest) fault
+  cast_at_fault at rest fault e = fault_as (some_expr g 8 d)
+      (λ m j.
+      let t = j.second.first in
+      let a = j.second.second.second in (
+        Converted at t.0 a.0,
+        omega arith,
+        (
+          le-leb 8 (level a.0) a.1,
+          record {
+            front = j.front;
+            back = j.back;
+            parts = j.parts;
+            first = j.first;
+            second = record {
+              front = j.second.front;
+              back = j.second.back;
+              parts = j.second.parts;
+              first = t.1;
+              second = record { front = j.second.second.front; back = j.second.second.back; parts = j.second.second.parts; first = j.second.second.first; second = a.2 };
+            };
+          },
+        ),
+      ))
+      (fault_behind (token_stands limit d (symbol.Sign at sign.OpenParenthesis) rest within) (elim (bind_err (type_at rest) _ fault e) [
+        | inl w ↦ fault_before (sign_token d sign.CloseParenthesis · some_expr g 8 (suc d)) (sign_mark d sign.CloseParenthesis ++ name_mark (suc d))
+            (record { front = sign_mark d sign.CloseParenthesis; back = name_mark (suc d); parts = refl; first = (0, refl); second = blank_expr g 8 (suc d) (omega arith) })
+            (type_at_fault limit d rest fault within w)
+        | inr t ↦ fault_behind (stands_as (some_type d) (λ m k. (t.0.0, k)) (type_at_stands limit d rest t.0 within t.1)) (elim (bind_err (behind sign.CloseParenthesis t.0.1) _ fault t.2) [
+          | inl w ↦ fault_before (some_expr g 8 (suc d)) (name_mark (suc d)) (blank_expr g 8 (suc d) (omega arith)) (behind_fault limit d sign.CloseParenthesis t.0.1 fault w)
+          | inr c ↦ fault_behind (behind_stands limit d sign.CloseParenthesis t.0.1 c.0 within c.1) (elim (bind_err (deep_level g r 8 c.0) _ fault c.2) [
+            | inl w ↦ deep_level_fault g limit (suc d) r faults 8 c.0 fault (omega arith) w
+            | inr w ↦ no_fault _ fault w.2
+          ])
+        ])
+      ]))
+
+  -- any expression in parentheses
+  parenthesised : (at : ℕ) (marks : List Mark) → Joined (token d (symbol.Sign at sign.OpenParenthesis)) (some_expr g 0 (suc d) · sign_token d sign.CloseParenthesis) marks → some_expr g 8 d marks
+  parenthesised at marks j = (
+    Parenthesised at j.second.first.0,
+    omega arith,
+    record {
+      front = j.front;
+      back = j.back;
+      parts = j.parts;
+      first = j.first;
+      second = record { front = j.second.front; back = j.second.back; parts = j.second.parts; first = j.second.first.2; second = j.second.second };
+    },
+  )
+
+  parenthesised_at_fault : (at : ℕ) (rest : List Symbol) (fault : Fault)
+      → (deep_level g r 0 rest >>= λ a. behind sign.CloseParenthesis a.1 >>= λ rest. postfix_at g r (Parenthesised at a.0) rest) ≡ Err fault
+      → FaultStands limit (some_expr g 8 d) (symbol.Sign at sign.OpenParenthesis ∷ rest) fault
+  parenthesised_at_fault at rest fault e =
+      let opened = token_stands limit d (symbol.Sign at sign.OpenParenthesis) rest within in
+      elim (bind_err (deep_level g r 0 rest) _ fault e) [
+        | inl w ↦ fault_as (some_expr g 8 d) (parenthesised at) (fault_behind opened
+            (fault_before (sign_token d sign.CloseParenthesis) (sign_mark d sign.CloseParenthesis) (0, refl) (deep_level_fault g limit (suc d) r faults 0 rest fault (omega arith) w)))
+        | inr a ↦
+            let inside = deep_level-is g limit (suc d) r sound 0 rest a.0 (omega arith) a.1 in
+            elim (bind_err (behind sign.CloseParenthesis a.0.1) _ fault a.2) [
+              | inl w ↦ fault_as (some_expr g 8 d) (parenthesised at) (fault_behind opened
+                  (fault_behind (some_level g limit (suc d) 0 rest a.0 inside) (behind_fault limit d sign.CloseParenthesis a.0.1 fault w)))
+              | inr c ↦ postfix_fault (symbol.Sign at sign.OpenParenthesis ∷ rest) (Parenthesised at a.0.0, c.0) fault
+                  (stands_joined opened (stands_joined inside.stands (behind_stands limit d sign.CloseParenthesis a.0.1 c.0 within c.1))) refl refl c.2
+            ]
+      ]
+
+  parenthesis_at_fault : (at : ℕ) (rest : List Symbol) (fault : Fault) → parenthesis_at g r at rest ≡ Err fault → FaultStands limit (some_expr g 8 d) (symbol.Sign at sign.OpenParenthesis ∷ rest) fault
+  unfolding parenthesis_at
+  parenthesis_at_fault at rest fault e = elim (chosen (begins_base rest) _ _ (Err fault) e) [
+    | inl c ↦ cast_at_fault at rest fault c.1
+    | inr c ↦ parenthesised_at_fault at rest fault c.1
+  ]
+
+  prefixed_at_fault : (at : ℕ) (s : Sign) (o : Option PrefixOperator) (rest : List Symbol) (fault : Fault) → prefix_of g s ≡ o → prefixed_at g r at o (symbol.Sign at s ∷ rest) rest ≡ Err fault → FaultStands limit (some_expr g 8 d) (symbol.Sign at s ∷ rest) fault
+  unfolding prefixed_at
+  prefixed_at_fault at s None rest fault is e = no_expr (symbol.Sign at s ∷ rest) fault e
+  prefixed_at_fault at s (Some op) rest fault is e =
+      let known = prefix_of-is g s op is in
+      subst (λ (s : Sign). FaultStands limit (some_expr g 8 d) (symbol.Sign at s ∷ rest) fault) (sym known.0) (elim (bind_err (deep_level g r 8 rest) _ fault e) [
+        | inl w ↦ fault_as (some_expr g 8 d)
+            (λ m j. (
+              Prefixed at op j.second.0,
+              omega arith,
+              (
+                known.1,
+                (
+                  le-leb 8 (level j.second.0) j.second.1,
+                  record { front = j.front; back = j.back; parts = j.parts; first = j.first; second = j.second.2 },
+                ),
+              ),
+            ))
+            (fault_behind (token_stands limit d (symbol.Sign at (prefix_sign op)) rest within) (deep_level_fault g limit (suc d) r faults 8 rest fault (omega arith) w))
+        | inr w ↦ no_fault _ fault w.2
+      ])
+
+  unary_sign_at_fault : (at : ℕ) (s : Sign) (rest : List Symbol) (fault : Fault) → unary_at g r (symbol.Sign at s ∷ rest) ≡ Err fault → FaultStands limit (some_expr g 8 d) (symbol.Sign at s ∷ rest) fault
+  unfolding unary_at
+  unary_sign_at_fault at s rest fault e = elim (chosen (same_sign s sign.OpenParenthesis) _ _ (Err fault) e) [
+    | inl c ↦ subst (λ (s : Sign). FaultStands limit (some_expr g 8 d) (symbol.Sign at s ∷ rest) fault) (sym (same_sign_is s sign.OpenParenthesis c.0)) (parenthesis_at_fault at rest fault c.1)
+    | inr c ↦ prefixed_at_fault at s (prefix_of g s) rest fault refl c.1
+  ]
+
+  -- a primary expression, or what stands behind it, is at fault
+  primary_fault : (symbols : List Symbol) (fault : Fault) → (primary_at g r symbols >>= λ x. postfix_at g r x.0 x.1) ≡ Err fault → FaultStands limit (some_expr g 8 d) symbols fault
+  primary_fault symbols fault e = elim (bind_err (primary_at g r symbols) _ fault e) [
+    | inl w ↦ primary_at_fault symbols fault w
+    | inr x ↦ let p = primary_at-is g limit d r within sound symbols x.0 x.1 in postfix_fault symbols x.0 fault p.stands p.level_is p.links_are x.2
+  ]
+
+  unary_at_fault : (symbols : List Symbol) (fault : Fault) → unary_at g r symbols ≡ Err fault → FaultStands limit (some_expr g 8 d) symbols fault
+  unfolding unary_at
+  unary_at_fault (symbol.Sign at s ∷ rest) fault e = unary_sign_at_fault at s rest fault e
+  unary_at_fault [] fault e = no_expr [] fault e
+  unary_at_fault (other ∷ rest) fault e = primary_fault (other ∷ rest) fault e
+
+  level_at_fault : (least : ℕ) (symbols : List Symbol) (fault : Fault) → least ≤ 8 → level_at g r least symbols ≡ Err fault → FaultStands limit (some_expr g least d) symbols fault
+  unfolding level_at
+  level_at_fault least symbols fault small e = elim (bind_err (unary_at g r symbols) _ fault e) [
+    | inl w ↦ fault_as (some_expr g least d) (lower_expr g 8 least d small) (unary_at_fault symbols fault w)
+    | inr x ↦
+        let first = unary_at-is g limit d r within sound symbols x.0 x.1 in
+        let high = first.at_least in
+        fault_goes_behind g limit d least symbols x.0 fault first.stands
+        (climb_at_fault g limit d r within sound faults least (8 - least) x.0.0 x.0.1 fault (omega arith) (omega arith) x.2)
+  ]
+
+  -- what reads one deeper is at fault as it says
+  readers_fault : FaultsStand g limit d (record { level = level_at g r; chain = chain_at g r; postfix = postfix_at g r })
+  readers_fault = record {
+    level_is = level_at_fault;
+    chain_is = λ start l x symbols fault at small h e.
+        chain_at_fault g limit start l x small h r (subst (λ (k : ℕ). k ≤ limit) (sym at) within) (subst (λ (k : ℕ). AreSound g limit (suc k) r) (sym at) sound) (subst (λ (k : ℕ). AreFaulty g limit (suc k) r) (sym at) faults) symbols fault e;
+    postfix_is = λ start x symbols fault at h e.
+        postfix_at_fault g limit start r x h (subst (λ (k : ℕ). k ≤ limit) (sym at) within) (subst (λ (k : ℕ). AreSound g limit (suc k) r) (sym at) sound) (subst (λ (k : ℕ). AreFaulty g limit (suc k) r) (sym at) faults) symbols fault e;
+  }
+
+-- ---- at any depth
+
+deeper_fault : (g : Dialect) (limit n d : ℕ) → d + n ≡ limit → AreFaulty g limit (suc d) (deeper g n)
+unfolding deeper
+deeper_fault g limit zero d at = omega arith
+deeper_fault g limit (suc n) d at = readers_fault g limit (suc d) (deeper g n) (omega arith) (deeper-is g limit n (suc d) (omega arith)) (deeper_fault g limit n (suc d) (omega arith))
+
+pub expr_fault_stands : ExprFaultStands
+unfolding expr_at
+expr_fault_stands g n d symbols fault e =
+    level_at_fault g (d + n) d (deeper g n) (omega arith) (deeper-is g (d + n) n d refl) (deeper_fault g (d + n) n d refl) 0 symbols fault (omega arith) e
+
+-- a symbol that an expression may begin with begins one
+pub expr_goes_on : ExprGoesOn
+expr_goes_on g d s rest e = let b = begins_expr-is g d s rest e in (b.0, lower_expr g 8 0 d (omega arith) (record { symbol = s; depth = d } ∷ b.0) b.1)

@@ -4,4 +4,5 @@ pub mod Resuming
 pub mod Back
 pub mod ExprFaults
 pub mod ExprStands
+pub mod Local
 mod Operators

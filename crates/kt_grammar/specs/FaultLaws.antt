@@ -1,6 +1,6 @@
 -- Laws of the places of faults: what was read before a fault begins something, through joined parts.
-use Rattle.std.proofs.Common.{◌≡◌, ℕ, zero, suc, ◌≤◌, ◌<◌, ◌⊎◌, inl, inr, Bool, true, false, List, [], ◌∷◌, ◌++◌, length, drop, Result, Ok, Err, refl, sym, ap, ◌∙◌, subst, append_assoc}
-use Rattle.std.specs.Prelude.{MatchResult, if◌then◌else◌}
+use Rattle.std.proofs.Common.{◌≡◌, ℕ, zero, suc, ◌≤◌, ◌<◌, ◌⊎◌, inl, inr, List, [], ◌∷◌, ◌++◌, length, drop, Result, Ok, Err, refl, sym, ap, ◌∙◌, subst, append_assoc}
+use Rattle.std.specs.Prelude.{MatchResult}
 use Rattle.kt_grammar.specs.declared.fault.Fault.{Fault}
 use Rattle.kt_grammar.specs.declared.fault.Fault.TheVariants.{Syntax, TooDeep, NoMemory}
 use Rattle.kt_grammar.specs.declared.keyword.Keyword.TheVariants as keywords
@@ -12,12 +12,12 @@ use Rattle.kt_grammar.specs.declared.tree.Name.{Name}
 use Rattle.kt_grammar.specs.declared.tree.Base.{Base}
 use Rattle.kt_grammar.specs.declared.tree.Base.TheVariants as base
 use Rattle.kt_grammar.specs.declared.tree.TypeName.{TypeName}
-use Rattle.kt_grammar.specs.Marks.{Mark, symbols_of, IsShallow, nothing, sign as sign_token, keyword, name, Joined, ◌·◌, optional}
+use Rattle.kt_grammar.specs.Marks.{Mark, symbols_of, nothing, sign as sign_token, name, ◌·◌}
 use Rattle.kt_grammar.specs.Spelling.{between, bare_base, spells_base, spells_type}
-use Rattle.kt_grammar.specs.Cursor.{◌>>=◌, Outcome, unexpected, begins_sign, behind, name_at, count_sign, listed_at}
+use Rattle.kt_grammar.specs.Cursor.{◌>>=◌, Outcome, unexpected, begins_sign, behind, name_at, listed_at}
 use Rattle.kt_grammar.specs.Reading.{behind_const, bare_base_at, base_at, type_at, between_at}
 use Rattle.kt_grammar.specs.Laws.{Stands, IsFaultAt, FaultStands}
-use Rattle.kt_grammar.specs.StandsLaws.{chosen, symbols_of_joined, shallow_joined, stands_as, stands_joined, keyword_stands, begins_sign_stands, behind_stands, type_at_stands, listed}
+use Rattle.kt_grammar.specs.StandsLaws.{chosen, symbols_of_joined, shallow_joined, stands_as, keyword_stands, begins_sign_stands, behind_stands, type_at_stands, listed}
 
 -- ---- results
 
@@ -154,7 +154,8 @@ some_base d marks = (b : Base) × spells_base d b marks
 abbrev pub some_type : ℕ → List Mark → Type 0
 some_type d marks = (t : TypeName) × spells_type d t marks
 
-bare_base_at_fault : (limit d : ℕ) (symbols : List Symbol) (fault : Fault) → d ≤ limit → bare_base_at symbols ≡ Err fault → FaultStands limit (some_bare_base d) symbols fault
+-- a type without stars, and none of `const` before it, breaks off where it is not read
+pub bare_base_at_fault : (limit d : ℕ) (symbols : List Symbol) (fault : Fault) → d ≤ limit → bare_base_at symbols ≡ Err fault → FaultStands limit (some_bare_base d) symbols fault
 unfolding bare_base_at
 bare_base_at_fault limit d [] fault h e = unexpected_stands limit (some_bare_base d) (base_mark d) [] fault (base.Char, (0, refl)) e
 bare_base_at_fault limit d (symbol.Keyword at keywords.Char ∷ rest) fault h e = no_fault _ fault e
@@ -163,8 +164,8 @@ bare_base_at_fault limit d (symbol.Keyword at keywords.Long ∷ rest) fault h e 
 bare_base_at_fault limit d (symbol.Keyword at keywords.Mutex ∷ rest) fault h e = no_fault _ fault e
 bare_base_at_fault limit d (symbol.Keyword at keywords.Struct ∷ rest) fault h e = elim (bind_err (name_at rest) _ fault e) [
   | inl w ↦ fault_as (some_bare_base d)
-    (λ m j. (base.Struct j.second.0, record { front = j.front; back = j.back; parts = j.parts; first = j.first; second = j.second.1 }))
-    (fault_behind (keyword_stands limit d at keywords.Struct rest h) (name_at_fault limit d rest fault w))
+      (λ m j. (base.Struct j.second.0, record { front = j.front; back = j.back; parts = j.parts; first = j.first; second = j.second.1 }))
+      (fault_behind (keyword_stands limit d at keywords.Struct rest h) (name_at_fault limit d rest fault w))
   | inr w ↦ no_fault _ fault w.2
 ]
 bare_base_at_fault limit d (other ∷ rest) fault h e = unexpected_stands limit (some_bare_base d) (base_mark d) (other ∷ rest) fault (base.Char, (0, refl)) e
@@ -183,27 +184,30 @@ base_at_fault limit d symbols fault h e = fault_as (some_base d)
 pub type_at_fault : (limit d : ℕ) (symbols : List Symbol) (fault : Fault) → d ≤ limit → type_at symbols ≡ Err fault → FaultStands limit (some_type d) symbols fault
 type_at_fault limit d symbols fault h e = elim (bind_err (base_at symbols) _ fault e) [
   | inl w ↦ fault_as (some_type d)
-    (λ m j. (record { base = j.first.0; stars = 0 }, record { front = j.front; back = j.back; parts = j.parts; first = j.first.1; second = j.second }))
-    (fault_before nothing [] refl (base_at_fault limit d symbols fault h w))
+      (λ m j. (record { base = j.first.0; stars = 0 }, record { front = j.front; back = j.back; parts = j.parts; first = j.first.1; second = j.second }))
+      (fault_before nothing [] refl (base_at_fault limit d symbols fault h w))
   | inr w ↦ no_fault _ fault w.2
 ]
 
 -- a type name that can stand where one is missing
 pub is_blank_type : (d : ℕ) → some_type d (base_mark d)
-is_blank_type d = (record { base = base.Char; stars = 0 }, record {
-  front = base_mark d;
-  back = [];
-  parts = refl;
-  first = record { front = []; back = base_mark d; parts = refl; first = inl refl; second = (0, refl) };
-  second = refl;
-})
+is_blank_type d = (
+  record { base = base.Char; stars = 0 },
+  record {
+    front = base_mark d;
+    back = [];
+    parts = refl;
+    first = record { front = []; back = base_mark d; parts = refl; first = inl refl; second = (0, refl) };
+    second = refl;
+  },
+)
 
 -- a type name in parentheses breaks off where it is not read
 pub between_at_fault : (limit d : ℕ) (symbols : List Symbol) (fault : Fault) → d ≤ limit → between_at symbols ≡ Err fault → FaultStands limit (between d (some_type d)) symbols fault
 between_at_fault limit d symbols fault h e = elim (bind_err (behind sign.OpenParenthesis symbols) _ fault e) [
   | inl w ↦ fault_before (some_type d · sign_token d sign.CloseParenthesis) (base_mark d ++ sign_mark d sign.CloseParenthesis)
-    (record { front = base_mark d; back = sign_mark d sign.CloseParenthesis; parts = refl; first = is_blank_type d; second = (0, refl) })
-    (behind_fault limit d sign.OpenParenthesis symbols fault w)
+      (record { front = base_mark d; back = sign_mark d sign.CloseParenthesis; parts = refl; first = is_blank_type d; second = (0, refl) })
+      (behind_fault limit d sign.OpenParenthesis symbols fault w)
   | inr o ↦ fault_behind (behind_stands limit d sign.OpenParenthesis symbols o.0 h o.1) (elim (bind_err (type_at o.0) _ fault o.2) [
     | inl w ↦ fault_before (sign_token d sign.CloseParenthesis) (sign_mark d sign.CloseParenthesis) (0, refl) (type_at_fault limit d o.0 fault h w)
     | inr t ↦ fault_behind (stands_as (some_type d) (λ m s. (t.0.0, s)) (type_at_stands limit d o.0 t.0 h t.1)) (elim (bind_err (behind sign.CloseParenthesis t.0.1) _ fault t.2) [
@@ -230,11 +234,18 @@ listed_at_fault limit d spells_item item h stands faults blank marks is (suc cou
   | inl w ↦ fault_as (some_listed d spells_item) (λ m s. (s.0, [], s.1)) (faults symbols fault w)
   | inr s ↦ elim (chosen (begins_sign sign.Comma s.0.1) _ _ (Err fault) s.2) [
     | inl c ↦ fault_as (some_listed d spells_item)
-      (λ m j. (s.0.0, j.second.second.0 ∷ j.second.second.1, record {
-        front = j.front; back = j.back; parts = j.parts; first = j.first;
-        second = record { front = j.second.front; back = j.second.back; parts = j.second.parts; first = j.second.first; second = j.second.second.2 };
-      }))
-      (fault_behind (stands symbols s.0 s.1) (fault_behind (begins_sign_stands limit d sign.Comma s.0.1 h c.0)
+        (λ m j. (
+          s.0.0,
+          j.second.second.0 ∷ j.second.second.1,
+          record {
+            front = j.front;
+            back = j.back;
+            parts = j.parts;
+            first = j.first;
+            second = record { front = j.second.front; back = j.second.back; parts = j.second.parts; first = j.second.first; second = j.second.second.2 };
+          },
+        ))
+        (fault_behind (stands symbols s.0 s.1) (fault_behind (begins_sign_stands limit d sign.Comma s.0.1 h c.0)
         (listed_at_fault limit d spells_item item h stands faults blank marks is count (done ++ s.0.0 ∷ []) (drop 1 s.0.1) fault c.1)))
     | inr c ↦ no_fault _ fault c.1
   ]

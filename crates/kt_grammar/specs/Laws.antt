@@ -89,3 +89,9 @@ abbrev pub ExprFaultStands : Type 0
 ExprFaultStands =
     (g : Dialect) (n d : ℕ) (symbols : List Symbol) (fault : Fault)
     → expr_at g n symbols ≡ Err fault → FaultStands (d + n) (some_expr g 0 d) symbols fault
+
+-- a symbol that an expression may begin with begins one
+abbrev pub ExprGoesOn : Type 0
+ExprGoesOn =
+    (g : Dialect) (d : ℕ) (s : Symbol) (rest : List Symbol) → begins_expr g (s ∷ rest) ≡ true
+    → (others : List Mark) × some_expr g 0 d (record { symbol = s; depth = d } ∷ others)

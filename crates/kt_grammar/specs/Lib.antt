@@ -11,3 +11,4 @@ pub mod StandsLaws
 pub mod CutLaws
 pub mod BackLaws
 pub mod FaultLaws
+pub mod Locality

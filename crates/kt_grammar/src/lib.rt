@@ -16,7 +16,7 @@ pub use keyword::{Keyword, RuleWord};
 pub use laws::expr_laws;
 pub use operator::{AssignOperator, BinaryOperator, Dialect, PrefixOperator, StepOperator};
 pub use sign::Sign;
-pub use stands::expr_stands_law;
+pub use stands::{expr_fault_law, expr_goes_on_law, expr_stands_law};
 pub use symbol::Symbol;
 pub use tree::{Base, Expr, Name, TypeName};
 pub use word::Word;

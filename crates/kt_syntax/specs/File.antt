@@ -1,8 +1,8 @@
 -- The syntax tree of a C file.
-use Rattle.std.specs.Prelude.{◌≡◌, ℕ, List, length}
+use Rattle.std.specs.Prelude.{◌≡◌, ℕ, List}
 use Rattle.kt_grammar.specs.declared.symbol.Symbol.{Symbol}
 use Rattle.kt_grammar.specs.Marks.{Mark, symbols_of, IsShallow}
-use Rattle.kt_syntax.specs.Tree.{External, Tree}
+use Rattle.kt_syntax.specs.Tree.{External}
 use Rattle.kt_syntax.specs.Spelling.{externals}
 
 -- the symbols are those of a file with these external declarations, no token deeper than the limit

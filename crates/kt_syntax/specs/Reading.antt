@@ -1,8 +1,8 @@
 -- C files read from the left: the parts at the front of a list of symbols, where n more constructs may be opened.
-use Rattle.std.specs.Prelude.{◌≡◌, ℕ, zero, suc, ◌-◌, ◌||◌, Bool, true, false, List, [], ◌∷◌, ◌++◌, length, drop, Option, Some, None, Result, Ok, Err, if◌then◌else◌}
+use Rattle.std.specs.Prelude.{ℕ, zero, suc, ◌||◌, Bool, true, false, List, [], ◌∷◌, length, drop, Option, Some, None, Result, Ok, Err, if◌then◌else◌}
 use Rattle.kt_lex.specs.declared.number.Number.{Number}
 use Rattle.kt_grammar.specs.declared.fault.Fault.{Fault}
-use Rattle.kt_grammar.specs.declared.fault.Fault.TheVariants.{Syntax, TooDeep}
+use Rattle.kt_grammar.specs.declared.fault.Fault.TheVariants.{TooDeep}
 use Rattle.kt_grammar.specs.declared.keyword.Keyword.{Keyword}
 use Rattle.kt_grammar.specs.declared.keyword.Keyword.TheVariants as keywords
 use Rattle.kt_grammar.specs.declared.operator.Dialect.TheVariants.{C}
@@ -27,7 +27,7 @@ use Rattle.kt_syntax.specs.declared.tree.Constant.TheVariants as constant
 use Rattle.kt_syntax.specs.declared.tree.GlobalDeclarator.{GlobalDeclarator}
 use Rattle.kt_syntax.specs.declared.tree.Parameter.{Parameter}
 use Rattle.kt_syntax.specs.declared.tree.Fields.{Fields}
-use Rattle.kt_syntax.specs.Tree.{Local, Declaration, Start, NoStart, Declares, Evaluates, Statement, Declared, Compound, Empty, Evaluated, Returned, Broken, Continued, Conditional, Alternative, Looped, Repeated, Counted, statements_of, Definition, Routine, External, StructMentioned, StructDefined, GlobalsDeclared, FunctionDeclared}
+use Rattle.kt_syntax.specs.Tree.{Local, Declaration, Start, NoStart, Declares, Evaluates, Statement, Declared, Compound, Empty, Evaluated, Returned, Broken, Continued, Conditional, Alternative, Looped, Repeated, Counted, statements_of, Definition, External, StructMentioned, StructDefined, GlobalsDeclared, FunctionDeclared}
 
 -- ---- declarators
 
@@ -323,10 +323,11 @@ bare_stars (Some p) = elim p.extent as (λ _. Option (Option Stars)) [ None ↦ 
 -- globals, or a function where a parenthesis follows the name
 unfoldable pub named_behind : ℕ → Base → Option Pointer → Name → List Symbol → Outcome External
 named_behind n base p name symbols =
-    elim (bare_stars p) as (λ _. Outcome External)
-    [ None ↦ global_behind p name symbols >>= λ g. globals_behind base g.0 g.1
-    | (Some stars) ↦ if begins_sign signs.OpenParenthesis symbols then function_behind n (Some base) stars name (drop 1 symbols)
-        else (global_behind p name symbols >>= λ g. globals_behind base g.0 g.1) ]
+    elim (bare_stars p) as (λ _. Outcome External) [
+      | None ↦ global_behind p name symbols >>= λ g. globals_behind base g.0 g.1
+      | (Some stars) ↦ if begins_sign signs.OpenParenthesis symbols then function_behind n (Some base) stars name (drop 1 symbols)
+          else (global_behind p name symbols >>= λ g. globals_behind base g.0 g.1)
+    ]
 
 -- globals or a function behind the base
 unfoldable pub declared_behind : ℕ → Base → List Symbol → Outcome External

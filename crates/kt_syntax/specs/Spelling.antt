@@ -1,5 +1,5 @@
 -- The grammar of C files: by which tokens each part is spelled, each token with its depth.
-use Rattle.std.specs.Prelude.{◌≡◌, ℕ, zero, suc, ◌-◌, Bool, true, false, nat_le, not, List, [], ◌∷◌, Option, Some, None, ◌⊎◌}
+use Rattle.std.specs.Prelude.{◌≡◌, ℕ, suc, ◌-◌, Bool, true, false, nat_le, not, List, [], ◌∷◌, Option, Some, None, ◌⊎◌}
 use Rattle.std.specs.List.{AllByRecursion}
 use Rattle.kt_lex.specs.declared.number.Number.{Number}
 use Rattle.kt_grammar.specs.declared.keyword.Keyword.TheVariants as keywords
@@ -8,7 +8,7 @@ use Rattle.kt_grammar.specs.declared.sign.Sign.TheVariants as signs
 use Rattle.kt_grammar.specs.declared.symbol.Symbol.TheVariants as symbol
 use Rattle.kt_grammar.specs.declared.tree.Base.{Base}
 use Rattle.kt_grammar.specs.Tree.{Term}
-use Rattle.kt_grammar.specs.Marks.{Mark, Language, nothing, token, sign, keyword, name, ◌·◌, when, optional, repeated}
+use Rattle.kt_grammar.specs.Marks.{Language, nothing, token, sign, keyword, name, ◌·◌, when, optional, repeated}
 use Rattle.kt_grammar.specs.Spelling.{between, spells_base, spells}
 use Rattle.kt_syntax.specs.declared.tree.Stars.{Stars}
 use Rattle.kt_syntax.specs.declared.tree.Extent.{Extent}
@@ -20,7 +20,7 @@ use Rattle.kt_syntax.specs.declared.tree.Constant.TheVariants as constant
 use Rattle.kt_syntax.specs.declared.tree.GlobalDeclarator.{GlobalDeclarator}
 use Rattle.kt_syntax.specs.declared.tree.Parameter.{Parameter}
 use Rattle.kt_syntax.specs.declared.tree.Fields.{Fields}
-use Rattle.kt_syntax.specs.Tree.{Local, Declaration, Start, NoStart, Declares, Evaluates, Statement, Declared, Compound, Empty, Evaluated, Returned, Broken, Continued, Conditional, Alternative, Looped, Repeated, Counted, Statements, Nothing, More, Definition, Routine, External, StructMentioned, StructDefined, GlobalsDeclared, FunctionDeclared}
+use Rattle.kt_syntax.specs.Tree.{Local, Declaration, Start, NoStart, Declares, Evaluates, Statement, Declared, Compound, Empty, Evaluated, Returned, Broken, Continued, Conditional, Alternative, Looped, Repeated, Counted, Statements, Nothing, More, Definition, External, StructMentioned, StructDefined, GlobalsDeclared, FunctionDeclared}
 
 abbrev pub is_empty : {A : Type 0} → List A → Bool
 is_empty [] = true
