@@ -1,0 +1,9 @@
+pub mod Checked
+pub mod Uses
+pub mod Types
+pub mod Environment
+pub mod Operands
+pub mod Formats
+pub mod Rules
+pub mod Builtins
+pub mod Terms

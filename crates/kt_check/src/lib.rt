@@ -1,0 +1,7 @@
+//! The typing of C files.
+#![tactic(auto)]
+
+mod builtin;
+mod fault;
+
+pub use fault::CheckFault;
