@@ -151,7 +151,7 @@ module _ (limit d : ℕ) (h : d ≤ limit) where
       let c = chosen_first (same_sign s signs.Minus) (negative_at rest) _ x e in
       subst (λ (s : Sign). Stands limit (constant_spelling d x.0) (symbol.Sign at s ∷ rest) x.1) (sym (same_sign_is s signs.Minus c.0)) (negative_at_stands at rest x c.1)
   constant_at_stands (symbol.Character at b ∷ rest) x e = single_stands (symbol.Character at b) rest (constant.Character b) x (λ m t. (at, t)) e
-  constant_at_stands (symbol.Text at bytes ∷ rest) x e = single_stands (symbol.Text at bytes) rest (constant.Text bytes) x (λ m t. (at, t)) e
+  constant_at_stands (symbol.Text at bytes ∷ rest) x e = single_stands (symbol.Text at bytes) rest (constant.Text at bytes) x (λ m t. t) e
   constant_at_stands (symbol.Keyword at keywords.Null ∷ rest) x e = single_stands (symbol.Keyword at keywords.Null) rest constant.Null x (λ m t. (at, t)) e
   constant_at_stands (symbol.Keyword at keywords.Eof ∷ rest) x e = single_stands (symbol.Keyword at keywords.Eof) rest constant.Eof x (λ m t. (at, t)) e
   constant_at_stands (symbol.Keyword at keywords.MutexInitializer ∷ rest) x e = single_stands (symbol.Keyword at keywords.MutexInitializer) rest constant.MutexInitializer x (λ m t. (at, t)) e

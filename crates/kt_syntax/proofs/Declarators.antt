@@ -164,7 +164,7 @@ unfolding constant_at negative_at
 constant-back limit d (constant.Number n) marks rest is low = token-end constant_at rest _ is.1 low refl
 constant-back limit d (constant.Negative n) marks rest is low = token-then constant_at rest _ (signed is) low (token-end negative_at rest _ is.second.1 low refl)
 constant-back limit d (constant.Character b) marks rest is low = token-end constant_at rest _ is.1 low refl
-constant-back limit d (constant.Text bytes) marks rest is low = token-end constant_at rest _ is.1 low refl
+constant-back limit d (constant.Text at bytes) marks rest is low = token-end constant_at rest _ is low refl
 constant-back limit d constant.Null marks rest is low = token-end constant_at rest _ is.1 low refl
 constant-back limit d constant.Eof marks rest is low = token-end constant_at rest _ is.1 low refl
 constant-back limit d constant.MutexInitializer marks rest is low = token-end constant_at rest _ is.1 low refl

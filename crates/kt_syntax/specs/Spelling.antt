@@ -49,9 +49,6 @@ number d n marks = (at : ℕ) × token d (symbol.Number at n) marks
 abbrev pub character : ℕ → ℕ → Language
 character d b marks = (at : ℕ) × token d (symbol.Character at b) marks
 
-abbrev pub text : ℕ → List ℕ → Language
-text d bytes marks = (at : ℕ) × token d (symbol.Text at bytes) marks
-
 -- ---- declarators
 
 abbrev pub stars : ℕ → Stars → Language
@@ -78,7 +75,7 @@ abbrev pub constant_spelling : ℕ → Constant → Language
 constant_spelling d (constant.Number n) = number d n
 constant_spelling d (constant.Negative n) = sign d signs.Minus · number d n
 constant_spelling d (constant.Character b) = character d b
-constant_spelling d (constant.Text bytes) = text d bytes
+constant_spelling d (constant.Text at bytes) = token d (symbol.Text at bytes)
 constant_spelling d constant.Null = keyword d keywords.Null
 constant_spelling d constant.Eof = keyword d keywords.Eof
 constant_spelling d constant.MutexInitializer = keyword d keywords.MutexInitializer

@@ -42,7 +42,8 @@ pub enum Constant {
     Number(Number),
     Negative(Number),
     Character(u8),
-    Text(Items<u8>),
+    /// A string and its place.
+    Text(u32, Items<u8>),
     Null,
     Eof,
     MutexInitializer,
