@@ -36,9 +36,10 @@ abbrev pub all : {A : Type 0} → List (Checked A) → Checked (List A)
 all [] = Ok []
 all (c ∷ rest) = and_then (both c (all rest)) (λ x. Ok (x.0 ∷ x.1))
 
--- the value, where the test holds; else the fault
-abbrev pub unless : {A : Type 0} → Bool → CheckFault → A → Checked A
-unless b f x = if b then fault f else Ok x
+-- the fault, unless the test holds
+abbrev pub holds : Bool → CheckFault → Checked (Unit {0})
+holds true f = Ok tt
+holds false f = fault f
 
 -- the value, where it is there; else the fault
 abbrev pub found : {A : Type 0} → Option A → CheckFault → Checked A

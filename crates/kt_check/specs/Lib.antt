@@ -7,3 +7,6 @@ pub mod Formats
 pub mod Rules
 pub mod Builtins
 pub mod Terms
+pub mod Statements
+pub mod Tables
+pub mod Files

@@ -6,7 +6,7 @@ use Rattle.kt_tree.specs.declared.expr.Request.TheVariants as request
 use Rattle.kt_tree.specs.Tree.{Expression, Constant', LocalRead, Operated, Requested, Expressions, NoMore, More}
 use Rattle.kt_tree.specs.Kinds.{char_type, int_type}
 use Rattle.kt_check.specs.declared.fault.CheckFault.TheVariants.{BadType}
-use Rattle.kt_check.specs.Checked.{Checked, fault, and_then, unless}
+use Rattle.kt_check.specs.Checked.{Checked, fault, and_then}
 use Rattle.kt_check.specs.Environment.{Environment, is_integer, is_pointer, pointer_to}
 
 pub data Operand : Type 0 where
