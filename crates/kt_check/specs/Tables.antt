@@ -119,13 +119,14 @@ outer_named t xs n = elim (global_from t 0 (globals_of xs) n) as (λ _. Option O
 pub record DeclaredLocal : Type 0 where
   pub name : List ℕ
   pub ty : ℕ
+  pub base : Base
   pub pointer : Option Pointer
 
 abbrev pub parameter_local : Table → Parameter → DeclaredLocal
-parameter_local t p = record { name = p.name.word; ty = declared_type t p.base p.pointer; pointer = p.pointer }
+parameter_local t p = record { name = p.name.word; ty = declared_type t p.base p.pointer; base = p.base; pointer = p.pointer }
 
 abbrev pub locals_in : Table → Declaration → List DeclaredLocal
-locals_in t x = map (λ l. record { name = l.name.word; ty = declared_type t x.base l.pointer; pointer = l.pointer }) x.locals
+locals_in t x = map (λ l. record { name = l.name.word; ty = declared_type t x.base l.pointer; base = x.base; pointer = l.pointer }) x.locals
 
 abbrev pub start_locals : Table → Start → List DeclaredLocal
 start_locals t (Declares x) = locals_in t x
