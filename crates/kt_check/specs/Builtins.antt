@@ -4,20 +4,19 @@ use Rattle.std.specs.List.{list_all, position_from}
 use Rattle.std.specs.Option.{option_map}
 use Rattle.std.specs.Str.{bytes_eq}
 use Rattle.kt_grammar.specs.declared.tree.Name.{Name}
-use Rattle.kt_types.specs.declared.kinds.Ty.{Ty}
-use Rattle.kt_types.specs.declared.kinds.Ty.TheVariants as ty
 use Rattle.kt_tree.specs.declared.expr.Part.{Part}
 use Rattle.kt_tree.specs.declared.expr.Part.TheVariants as part
 use Rattle.kt_tree.specs.declared.expr.Request.{Request}
 use Rattle.kt_tree.specs.declared.expr.Request.TheVariants as request
 use Rattle.kt_tree.specs.Tree.{Expression, Requested, Expressions, NoMore, More}
-use Rattle.kt_tree.specs.Kinds.{char_type, int_type, long_type, mutex_type}
+use Rattle.kt_check.specs.declared.ctype.CType.{CType}
+use Rattle.kt_check.specs.Types.{char, int, long, mutex, pointer_to, pointee, is_integer, same_ctype}
 use Rattle.kt_tree.specs.Names.{is_point_name}
 use Rattle.kt_check.specs.declared.fault.CheckFault.TheVariants.{Unknown, BadType, Entry, Note}
 use Rattle.kt_check.specs.declared.builtin.Builtin.{Builtin}
 use Rattle.kt_check.specs.declared.builtin.Builtin.TheVariants as builtin
 use Rattle.kt_check.specs.Checked.{Checked, fault, and_then, both, all, found}
-use Rattle.kt_check.specs.Environment.{Environment, Outer, Global, Function, Declared, local_named, is_integer, pointee, pointer_to}
+use Rattle.kt_check.specs.Environment.{Environment, Outer, Global, Function, Declared, local_named}
 use Rattle.kt_check.specs.Operands.{Operand, Valued, NoResult, Value, value, scalar, integer, pointer, convert}
 use Rattle.kt_check.specs.Formats.{Conversion, Plain, Decimal, LongDecimal, Byte, Text, format_of}
 
@@ -60,28 +59,28 @@ abbrev pub one_of : Expression → Expressions
 one_of e = More e NoMore
 
 -- a request that gives a value of a type
-abbrev pub gives : Request → ℕ → Expressions → Operand
-gives r t args = Valued t (Requested r (Some t) args)
+abbrev pub gives : Environment → Request → CType → Expressions → Operand
+gives env r t args = Valued t (Requested r (Some (env.place t)) args)
 
 -- a pointer to this type, or the fault
-abbrev pub points_to : Environment → ℕ → Argument → ℕ → Checked Value
-points_to env up x e = and_then (and_then x.typed (pointer env x.at up)) (λ p. elim (pointee env p.ty) as (λ _. Checked Value) [ None ↦ fault (BadType up) | (Some t) ↦ if t == e then Ok p else fault (BadType up) ])
+abbrev pub points_to : Environment → ℕ → Argument → CType → Checked Value
+points_to env up x e = and_then (and_then x.typed (pointer env x.at up)) (λ p. if same_ctype p.ty (pointer_to e) then Ok p else fault (BadType up))
 
 -- a request of one pointer to a type, which gives `int`
-abbrev pub asks_pointer : Environment → ℕ → Request → ℕ → Argument → Checked Operand
-asks_pointer env up r e x = and_then (points_to env up x e) (λ p. Ok (gives r int_type (one_of p.expression)))
+abbrev pub asks_pointer : Environment → ℕ → Request → CType → Argument → Checked Operand
+asks_pointer env up r e x = and_then (points_to env up x e) (λ p. Ok (gives env r int (one_of p.expression)))
 
 -- a request of one integer, which gives `int`
 abbrev pub asks_integer : Environment → ℕ → Request → Argument → Checked Operand
-asks_integer env up r x = and_then (integer_argument env up x) (λ v. Ok (gives r int_type (one_of v.expression)))
+asks_integer env up r x = and_then (integer_argument env up x) (λ v. Ok (gives env r int (one_of v.expression)))
 
 -- ---- printf
 
 -- the types that a piece of a format takes
 abbrev pub takes : Environment → ℕ → Conversion → Argument → Checked Value
-takes env up LongDecimal x = and_then (integer_argument env up x) (λ v. if v.ty == long_type then Ok v else fault (BadType up))
-takes env up Text x = points_to env up x char_type
-takes env up _ x = and_then (integer_argument env up x) (λ v. if v.ty == long_type then fault (BadType up) else Ok v)
+takes env up LongDecimal x = and_then (integer_argument env up x) (λ v. if same_ctype v.ty long then Ok v else fault (BadType up))
+takes env up Text x = points_to env up x char
+takes env up _ x = and_then (integer_argument env up x) (λ v. if same_ctype v.ty long then fault (BadType up) else Ok v)
 
 -- each piece but the plain ones takes one argument
 abbrev pub format_values : Environment → ℕ → List Conversion → List Argument → Checked Expressions
@@ -108,7 +107,7 @@ parts_of plain (Text ∷ cs) = with_bytes plain (part.Text ∷ parts_of [] cs)
 abbrev pub printed : Environment → ℕ → List ℕ → List Argument → Checked Operand
 printed env up format args =
     and_then (found (format_of format) (BadType up))
-    (λ cs. and_then (format_values env up cs args) (λ es. Ok (gives (request.Print (parts_of [] cs)) int_type es)))
+    (λ cs. and_then (format_values env up cs args) (λ es. Ok (gives env (request.Print (parts_of [] cs)) int es)))
 
 -- ---- points, threads, noted locals
 
@@ -122,14 +121,14 @@ updated env up name =
 
 abbrev pub updating_from : Environment → ℕ → List ℕ → Checked Operand
 updating_from env up name =
-    if is_point_name name then Ok (gives (request.IsUpdatingFrom (point_number env.points name)) int_type NoMore) else fault (BadType up)
+    if is_point_name name then Ok (gives env (request.IsUpdatingFrom (point_number env.points name)) int NoMore) else fault (BadType up)
 
-abbrev pub entry_in : Option ℕ → List ℕ → Option ℕ → Option (ℕ × ℕ)
+abbrev pub entry_in : Option CType → List CType → Option ℕ → Option (ℕ × CType)
 entry_in None (p ∷ []) (Some n) = Some (n, p)
 entry_in result parameters number = None
 
 -- the number and the parameter of a defined `void` function of one parameter
-abbrev pub entry_of : Option Outer → Option (ℕ × ℕ)
+abbrev pub entry_of : Option Outer → Option (ℕ × CType)
 entry_of (Some (Function d)) = entry_in d.result d.parameters d.number
 entry_of _ = None
 
@@ -138,16 +137,16 @@ abbrev pub outer_unhidden : Environment → List ℕ → Option Outer
 outer_unhidden env name = elim (local_named env.visible name) as (λ _. Option Outer) [ None ↦ env.outer name | (Some x) ↦ None ]
 
 -- the function that a thread begins at, and its argument, converted
-abbrev pub created_parts : Environment → ℕ → Option (ℕ × ℕ) → ℕ → Argument → Checked (ℕ × Expression)
+abbrev pub created_parts : Environment → ℕ → Option (ℕ × CType) → ℕ → Argument → Checked (ℕ × Expression)
 created_parts env up None at x = and_then (both (fault {A = ℕ} (Entry at)) x.typed) (λ y. fault (Entry at))
 created_parts env up (Some e) at x = and_then (and_then x.typed (convert env e.1 x.at up)) (λ v. Ok (e.0, v))
 
 abbrev pub created : Environment → ℕ → Name → Argument → Checked Operand
 created env up f x =
     and_then (created_parts env up (entry_of (outer_unhidden env f.word)) f.at x)
-    (λ e. Ok (gives (request.Create e.0) int_type (one_of e.1)))
+    (λ e. Ok (gives env (request.Create e.0) int (one_of e.1)))
 
 abbrev pub migrated : Environment → ℕ → Name → Checked Operand
 migrated env up n =
-    if env.noted then and_then (found (local_named env.visible n.word) (Note up)) (λ x. Ok (gives (request.MigrateLocal x) int_type NoMore))
+    if env.noted then and_then (found (local_named env.visible n.word) (Note up)) (λ x. Ok (gives env (request.MigrateLocal x) int NoMore))
     else fault (Note up)

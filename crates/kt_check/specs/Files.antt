@@ -23,28 +23,32 @@ use Rattle.kt_types.specs.declared.kinds.Ty.TheVariants as ty
 use Rattle.kt_types.specs.declared.kinds.View.{View}
 use Rattle.kt_types.specs.declared.kinds.View.TheVariants as view
 use Rattle.kt_types.specs.declared.kinds.FieldDecl.{FieldDecl}
-use Rattle.kt_types.specs.Table.{Table, Definition, fields_of}
-use Rattle.kt_types.specs.Layout.{layout, cells}
+use Rattle.kt_types.specs.Table.{Table, Definition}
+use Rattle.kt_check.specs.declared.ctype.CType.{CType}
 use Rattle.kt_tree.specs.declared.global.GlobalDecl.{GlobalDecl}
 use Rattle.kt_tree.specs.declared.global.Init.{Init}
 use Rattle.kt_tree.specs.declared.global.Init.TheVariants as init
-use Rattle.kt_tree.specs.Kinds.{char_type, int_type, is_integer_type, fits_in}
+use Rattle.kt_tree.specs.Kinds.{fits_in}
 use Rattle.kt_tree.specs.Tree.{Function as TypedFunction, Statement, Compound}
 use Rattle.kt_tree.specs.Version.{Program}
 use Rattle.kt_check.specs.declared.fault.CheckFault.{CheckFault}
 use Rattle.kt_check.specs.declared.fault.CheckFault.TheVariants.{Unknown, Twice, BadType, Incomplete, TooBig, Note, NoMain}
 use Rattle.kt_check.specs.Checked.{Checked, fault, and_then, both, holds, first}
-use Rattle.kt_check.specs.Environment.{Environment, Visible, Outer, Global, Function, Declared, is_integer, is_scalar, is_complete}
+use Rattle.kt_check.specs.Environment.{Environment, Visible, Outer, Global, Function, Declared, FieldOf, Struct, struct_numbered, cells_of}
 use Rattle.kt_check.specs.Builtins.{builtin_named}
-use Rattle.kt_check.specs.Types.{starred_place, place_of_type, number_of_struct}
+use Rattle.kt_check.specs.Types.{char, int, same_ctype, is_integer, is_scalar, ctype, place_in, place_of_type, number_of_struct}
+use Rattle.kt_check.specs.declared.ctype.Root.{Root}
+use Rattle.kt_check.specs.declared.ctype.Root.TheVariants as root
 use Rattle.kt_check.specs.Uses.{stars_of, result_stars}
 use Rattle.kt_check.specs.Statements.{Body, State, declarator_place, by_value, held, extent_outside, pointer_outside, is_count, new_name, declared, contains, entries}
-use Rattle.kt_check.specs.Tables.{table_of, declared_type, result_type, parameter_types, outer_named, functions_of, globals_of, OuterGlobal, global_name, locals_of, written_of, literals_in, literal_places, update_names, point_names, plain_view, view_of, extent_of}
+use Rattle.kt_check.specs.Tables.{struct_names, types_of, declared_type, result_type, parameter_types, outer_named, functions_of, globals_of, OuterGlobal, global_name, locals_of, written_of, literals_in, literal_places, update_names, point_names, plain_view, view_of, extent_of}
 
--- what a file's syntax gives once for all: its tables, before structs are defined
+-- what a file's syntax gives once for all: its tables
 pub record Frame : Type 0 where
   pub externals : List External
-  pub table : Table
+  -- the names of structs, by number, and the types of the table
+  pub names : List (List ℕ)
+  pub types : List Ty
   pub outer : List ℕ → Option Outer
   pub literals : List ℕ
   pub points : List (List ℕ)
@@ -52,15 +56,17 @@ pub record Frame : Type 0 where
 abbrev pub frame_of : List External → Frame
 frame_of xs = record {
   externals = xs;
-  table = table_of xs;
-  outer = outer_named (table_of xs) xs;
+  names = struct_names xs;
+  types = types_of xs;
+  outer = outer_named (struct_names xs) xs;
   literals = literal_places (written_of xs);
   points = point_names xs
 }
 
 -- what was declared so far
 pub record Sofar : Type 0 where
-  -- definitions of structs, the latest first
+  -- definitions of structs, the latest first, as typing and as the version has them
+  pub structs : List Struct
   pub defined : List Definition
   pub globals : List GlobalDecl
   -- the cells of all these globals
@@ -69,13 +75,12 @@ pub record Sofar : Type 0 where
   pub routines : List Routine
   pub functions : List TypedFunction
 
-abbrev pub table_at : Frame → Sofar → Table
-table_at f s = record f.table { defined = s.defined }
-
 -- the environment outside functions
 abbrev pub outside : Frame → Sofar → Environment
 outside f s = record {
-  table = table_at f s;
+  names = f.names;
+  place = place_in f.types;
+  structs = s.structs;
   outer = f.outer;
   literals = f.literals;
   points = f.points;
@@ -83,9 +88,6 @@ outside f s = record {
   noted = false;
   visible = []
 }
-
-abbrev pub cells_of : Frame → Sofar → ℕ → ℕ
-cells_of f s t = length (cells (table_at f s) t)
 
 -- ---- structs
 
@@ -98,10 +100,11 @@ abbrev pub count_of : Option Number → ℕ
 count_of None = 1
 count_of (Some n) = n.value
 
--- the type of a field: that of its declarator, or an array of it
-abbrev pub field_type : Table → Base → Declarator → ℕ
-field_type t b d = elim d.count as (λ _. ℕ)
-    [ None ↦ declared_type t b d.pointer | (Some n) ↦ place_of_type t.types (ty.Array (declared_type t b d.pointer) n.value) ]
+-- the place of a field's type: that of its declarator, or an array of it
+abbrev pub field_place : Frame → Base → Declarator → ℕ
+field_place f b d = elim d.count as (λ _. ℕ)
+    [ None ↦ place_in f.types (declared_type f.names b d.pointer)
+    | (Some n) ↦ place_of_type f.types (ty.Array (place_in f.types (declared_type f.names b d.pointer)) n.value) ]
 
 -- a field with the base of its declaration
 pub record OneField : Type 0 where
@@ -146,28 +149,35 @@ named_view outer fields n = elim (count_field fields n.word) as (λ _. View) [ N
 
 abbrev pub field_view : Frame → List OneField → OneField → View
 field_view f fields x = elim (extent_of x.declarator.pointer) as (λ _. View) [
-  | None ↦ plain_view f.table x.base x.declarator.pointer
+  | None ↦ plain_view x.base x.declarator.pointer
   | (Some e) ↦ elim e as (λ _. View) [ (extent.Name n) ↦ named_view f.outer fields n | (extent.Number at n) ↦ view.Count n.value ]
 ]
 
--- a field of a struct with these fields, of which those before it have so many cells
-abbrev pub field : Frame → Sofar → List OneField → ℕ → List (List ℕ) → OneField → Checked FieldDecl
+-- how many cells a field has
+abbrev pub field_cells : Frame → Sofar → OneField → ℕ
+field_cells f s x = count_of x.declarator.count * cells_of (outside f s) (declared_type f.names x.base x.declarator.pointer)
+
+-- a field of a struct with these fields, of which those before it have these names and so many cells
+abbrev pub field : Frame → Sofar → List OneField → ℕ → List (List ℕ) → OneField → Checked (Unit {0})
 field f s fields before names x =
     and_then
     (both (by_value (outside f s) x.base (stars_of x.declarator.pointer))
     (both (pointer_inside (outside f s) fields x.declarator.pointer)
     (both (holds (not (contains names x.declarator.name.word)) (Twice x.declarator.name.at))
-    (holds (is_array_count x.declarator.count && nat_le (before + count_of x.declarator.count * cells_of f s (declared_type f.table x.base x.declarator.pointer)) 65536)
-      (TooBig x.declarator.name.at)))))
-    (λ y. Ok (record { name = x.declarator.name.word; ty = field_type f.table x.base x.declarator; view = field_view f fields x }))
+    (holds (is_array_count x.declarator.count && nat_le (before + field_cells f s x) 65536) (TooBig x.declarator.name.at)))))
+    (λ y. Ok tt)
 
-abbrev pub fields_from : Frame → Sofar → List OneField → ℕ → List (List ℕ) → List OneField → Checked (List FieldDecl)
-fields_from f s fields before names [] = Ok []
+-- all fields; what is left is how many cells they have
+abbrev pub fields_from : Frame → Sofar → List OneField → ℕ → List (List ℕ) → List OneField → Checked ℕ
+fields_from f s fields before names [] = Ok before
 fields_from f s fields before names (x ∷ rest) =
-    and_then (field f s fields before names x)
-    (λ d. and_then
-      (fields_from f s fields (before + count_of x.declarator.count * cells_of f s (declared_type f.table x.base x.declarator.pointer)) (x.declarator.name.word ∷ names) rest)
-      (λ ds. Ok (d ∷ ds)))
+    and_then (field f s fields before names x) (λ d. fields_from f s fields (before + field_cells f s x) (x.declarator.name.word ∷ names) rest)
+
+abbrev pub field_info : Frame → OneField → FieldOf
+field_info f x = record { name = x.declarator.name.word; ty = declared_type f.names x.base x.declarator.pointer; array = is_some x.declarator.count }
+
+abbrev pub field_decl : Frame → List OneField → OneField → FieldDecl
+field_decl f fields x = record { name = x.declarator.name.word; ty = field_place f x.base x.declarator; view = field_view f fields x }
 
 -- ---- globals
 
@@ -203,37 +213,39 @@ is_zero n = (n.value == 0) && not n.long && not n.hexadecimal
 abbrev pub literal_number : List ℕ → ℕ → ℕ
 literal_number places at = elim (position_from (λ p. p == at) 0 places) as (λ _. ℕ) [ None ↦ 0 | (Some n) ↦ n ]
 
--- the initial value of a pointer to a type
-abbrev pub pointer_init : Frame → ℕ → Constant → Option Init
+-- the initial value of a pointer type
+abbrev pub pointer_init : Frame → CType → Constant → Option Init
 pointer_init f e written.Null = Some init.Null
 pointer_init f e (written.Number n) = if is_zero n then Some init.Null else None
-pointer_init f e (written.Text at bytes) = if e == char_type then Some (init.Literal (literal_number f.literals at)) else None
+pointer_init f t (written.Text at bytes) = if same_ctype t (record { root = root.Char; stars = 1 }) then Some (init.Literal (literal_number f.literals at)) else None
 pointer_init f e _ = None
 
 abbrev pub mutex_init : Constant → Option Init
 mutex_init written.MutexInitializer = Some init.Free
 mutex_init _ = None
 
+abbrev pub root_init : Root → Constant → Option Init
+root_init root.Char c = number_init 7 (constant_number c)
+root_init root.Int c = number_init 31 (constant_number c)
+root_init root.Long c = number_init 63 (constant_number c)
+root_init root.Mutex c = mutex_init c
+root_init (root.Struct n) c = None
+
 -- the initial value of a type, where the constant is one of it
-abbrev pub typed_init : Frame → Option Ty → Constant → Option Init
-typed_init f (Some ty.Char) c = number_init 7 (constant_number c)
-typed_init f (Some ty.Int) c = number_init 31 (constant_number c)
-typed_init f (Some ty.Long) c = number_init 63 (constant_number c)
-typed_init f (Some (ty.Ptr e)) c = pointer_init f e c
-typed_init f (Some ty.Mutex) c = mutex_init c
-typed_init f _ c = None
+abbrev pub typed_init : Frame → CType → Constant → Option Init
+typed_init f t c = if t.stars == 0 then root_init t.root c else pointer_init f t c
 
 -- a global array or struct has no initial value
-abbrev pub initial_of : Frame → ℕ → Bool → ℕ → Option Constant → Checked Init
+abbrev pub initial_of : Frame → CType → Bool → ℕ → Option Constant → Checked Init
 initial_of f t array at None = Ok init.Zero
 initial_of f t array at (Some c) =
-    elim (if array then None else typed_init f (slice_get f.table.types t) c) as (λ _. Checked Init) [ None ↦ fault (BadType at) | (Some i) ↦ Ok i ]
+    elim (if array then None else typed_init f t c) as (λ _. Checked Init) [ None ↦ fault (BadType at) | (Some i) ↦ Ok i ]
 
 -- a global, and what was declared with it
 abbrev pub global : Frame → Sofar → Base → GlobalDeclarator → Checked GlobalDecl
 global f s b g =
-    let t = declared_type f.table b g.declarator.pointer in
-    let size = count_of g.declarator.count * cells_of f s t in
+    let t = declared_type f.names b g.declarator.pointer in
+    let size = count_of g.declarator.count * cells_of (outside f s) t in
     and_then
     (both (by_value (outside f s) b (stars_of g.declarator.pointer))
     (both (pointer_outside (outside f s) g.declarator.pointer)
@@ -243,19 +255,22 @@ global f s b g =
     (initial_of f t (is_some g.declarator.count) (declarator_place g.declarator.pointer g.declarator.name) g.initial))))))
     (λ x. Ok (record {
       name = g.declarator.name.word;
-      ty = t;
+      ty = place_in f.types t;
       count = count_of g.declarator.count;
       array = is_some g.declarator.count;
-      view = view_of f.table f.outer b g.declarator.pointer;
+      view = view_of f.outer b g.declarator.pointer;
       init = x.1.1.1.1.1
     }))
 
-abbrev pub with_global : Frame → Sofar → GlobalDecl → Sofar
-with_global f s g = record s { globals = s.globals ++ g ∷ []; cells = s.cells + g.count * cells_of f s g.ty }
+abbrev pub with_global : Frame → Sofar → Base → GlobalDeclarator → GlobalDecl → Sofar
+with_global f s b g d = record s {
+  globals = s.globals ++ d ∷ [];
+  cells = s.cells + d.count * cells_of (outside f s) (declared_type f.names b g.declarator.pointer)
+}
 
 abbrev pub globals : Frame → Sofar → Base → List GlobalDeclarator → Checked Sofar
 globals f s b [] = Ok s
-globals f s b (g ∷ rest) = and_then (global f s b g) (λ d. globals f (with_global f s d) b rest)
+globals f s b (g ∷ rest) = and_then (global f s b g) (λ d. globals f (with_global f s b g d) b rest)
 
 -- ---- functions
 
@@ -268,25 +283,25 @@ abbrev pub result_fault : Frame → Sofar → Routine → Checked (Unit {0})
 result_fault f s r = elim r.result as (λ _. Checked (Unit {0})) [
   | None ↦ holds (not (is_some r.stars)) (BadType (stars_place r.stars r.name))
   | (Some b) ↦ and_then (both (by_value (outside f s) b (result_stars r.stars))
-      (holds (is_scalar (outside f s) (starred_place f.table.structs f.table.types b (result_stars r.stars))) (BadType (stars_place r.stars r.name))))
+      (holds (is_scalar (ctype f.names b (result_stars r.stars))) (BadType (stars_place r.stars r.name))))
       (λ x. Ok tt)
 ]
 
-abbrev pub same_numbers : List ℕ → List ℕ → Bool
-same_numbers [] [] = true
-same_numbers (a ∷ as') (b ∷ bs) = (a == b) && same_numbers as' bs
-same_numbers _ _ = false
+abbrev pub same_types : List CType → List CType → Bool
+same_types [] [] = true
+same_types (a ∷ as') (b ∷ bs) = same_ctype a b && same_types as' bs
+same_types _ _ = false
 
-abbrev pub same_result : Option ℕ → Option ℕ → Bool
+abbrev pub same_result : Option CType → Option CType → Bool
 same_result None None = true
-same_result (Some a) (Some b) = a == b
+same_result (Some a) (Some b) = same_ctype a b
 same_result _ _ = false
 
-abbrev pub same_function : Table → Routine → Routine → Bool
-same_function t a b = same_result (result_type t a) (result_type t b) && same_numbers (parameter_types t a) (parameter_types t b)
+abbrev pub same_function : List (List ℕ) → Routine → Routine → Bool
+same_function t a b = same_result (result_type t a) (result_type t b) && same_types (parameter_types t a) (parameter_types t b)
 
 -- a function is declared with one type, and defined once
-abbrev pub agrees : Table → Routine → List Routine → Checked (Unit {0})
+abbrev pub agrees : List (List ℕ) → Routine → List Routine → Checked (Unit {0})
 agrees t r [] = Ok tt
 agrees t r (earlier ∷ rest) =
     if bytes_eq earlier.name.word r.name.word
@@ -307,9 +322,9 @@ no_state = record { visible = []; own = []; next = 0 }
 
 abbrev pub body_of : Frame → Sofar → Routine → Bool → Body
 body_of f s r noted = record {
-  environment = record (outside f s) { locals = map (λ l. l.ty) (locals_of f.table r); noted = noted };
-  result = result_type f.table r;
-  names = map (λ l. l.name) (locals_of f.table r)
+  environment = record (outside f s) { locals = map (λ l. l.ty) (locals_of f.names r); noted = noted };
+  result = result_type f.names r;
+  names = map (λ l. l.name) (locals_of f.names r)
 }
 
 abbrev pub is_noted : Option Body' → Bool
@@ -319,10 +334,10 @@ is_noted (Some b) = b.noted
 abbrev pub typed_function : Frame → Routine → Bool → Statement → TypedFunction
 typed_function f r noted body = record {
   name = r.name.word;
-  result = result_type f.table r;
+  result = option_map (place_in f.types) (result_type f.names r);
   params = length r.parameters;
   noted = noted;
-  locals = map (λ l. record { name = l.name; ty = l.ty; view = view_of f.table f.outer l.base l.pointer }) (locals_of f.table r);
+  locals = map (λ l. record { name = l.name; ty = place_in f.types l.ty; view = view_of f.outer l.base l.pointer }) (locals_of f.names r);
   body = body
 }
 
@@ -338,20 +353,26 @@ function f s r =
     (both (result_fault f s r)
     (both (outer_name r.name)
     (both (holds (not (has_global s r.name.word)) (Twice r.name.at))
-    (both (agrees f.table r s.routines) (parameters (body_of f s r (is_noted r.body)) no_state r.parameters)))))
+    (both (agrees f.names r s.routines) (parameters (body_of f s r (is_noted r.body)) no_state r.parameters)))))
     (λ x. and_then (defined_function f s r x.1.1.1.1 r.body)
       (λ d. Ok (record s { routines = s.routines ++ r ∷ []; functions = s.functions ++ d })))
 
 -- ---- files
 
-abbrev pub struct_definition : Frame → Sofar → Name → List FieldDecl → Sofar
-struct_definition f s n ds = record s { defined = record { number = number_of_struct f.table.structs n.word; fields = ds } ∷ s.defined }
+abbrev pub with_struct : Frame → Sofar → Name → List OneField → ℕ → Sofar
+with_struct f s n fields cells = record s {
+  structs = record { number = number_of_struct f.names n.word; fields = map (field_info f) fields; cells = cells } ∷ s.structs;
+  defined = record { number = number_of_struct f.names n.word; fields = map (field_decl f fields) fields } ∷ s.defined
+}
+
+abbrev pub struct : Frame → Sofar → Name → List OneField → Checked Sofar
+struct f s n fields =
+    and_then (both (holds (not (is_some (struct_numbered s.structs (number_of_struct f.names n.word)))) (Twice n.at)) (fields_from f s fields 0 [] fields))
+    (λ x. Ok (with_struct f s n fields x.1))
 
 abbrev pub external : Frame → Sofar → External → Checked Sofar
 external f s (StructMentioned n) = Ok s
-external f s (StructDefined n fs) =
-    and_then (both (holds (not (is_some (fields_of (table_at f s) (number_of_struct f.table.structs n.word)))) (Twice n.at)) (fields_from f s (fields_in fs) 0 [] (fields_in fs)))
-    (λ x. Ok (struct_definition f s n x.1))
+external f s (StructDefined n fs) = struct f s n (fields_in fs)
 external f s (GlobalsDeclared b gs) = globals f s b gs
 external f s (FunctionDeclared r) = function f s r
 
@@ -360,19 +381,19 @@ externals f s [] = Ok s
 externals f s (x ∷ rest) = and_then (external f s x) (λ t. externals f t rest)
 
 abbrev pub nothing_yet : Sofar
-nothing_yet = record { defined = []; globals = []; cells = 0; routines = []; functions = [] }
+nothing_yet = record { structs = []; defined = []; globals = []; cells = 0; routines = []; functions = [] }
 
--- the function `main` gives `int` and has no parameter
-abbrev pub is_main : TypedFunction → Bool
-is_main g = bytes_eq g.name (codes "main") && same_result g.result (Some int_type) && (g.params == 0)
+-- a definition of `main` gives `int` and has no parameter
+abbrev pub is_main : Frame → Routine → Bool
+is_main f r = is_some r.body && bytes_eq r.name.word (codes "main") && same_result (result_type f.names r) (Some int) && (length r.parameters == 0)
 
-abbrev pub has_main : List TypedFunction → Bool
-has_main [] = false
-has_main (g ∷ rest) = is_main g || has_main rest
+abbrev pub has_main : Frame → List Routine → Bool
+has_main f [] = false
+has_main f (r ∷ rest) = is_main f r || has_main f rest
 
 abbrev pub program_of : Frame → Sofar → Program
 program_of f s = record {
-  types = table_at f s;
+  types = record { types = f.types; structs = f.names; defined = s.defined };
   globals = s.globals;
   literals = literals_in (written_of f.externals);
   functions = s.functions;
@@ -383,7 +404,7 @@ program_of f s = record {
 abbrev pub typed_file : Tree → Checked Program
 typed_file t =
     let f = frame_of t.externals in
-    and_then (externals f nothing_yet t.externals) (λ s. if has_main s.functions then Ok (program_of f s) else fault (NoMain t.length))
+    and_then (externals f nothing_yet t.externals) (λ s. if has_main f s.routines then Ok (program_of f s) else fault (NoMain t.length))
 
 -- the version of a file, or its first fault
 abbrev pub version_of : Tree → Result Program CheckFault

@@ -12,79 +12,84 @@ use Rattle.kt_grammar.specs.declared.operator.PrefixOperator.TheVariants as pref
 use Rattle.kt_grammar.specs.declared.operator.StepOperator.{StepOperator}
 use Rattle.kt_grammar.specs.declared.operator.StepOperator.TheVariants as step
 use Rattle.kt_grammar.specs.declared.tree.Name.{Name}
-use Rattle.kt_types.specs.declared.kinds.Ty.{Ty}
-use Rattle.kt_types.specs.declared.kinds.Ty.TheVariants as ty
-use Rattle.kt_types.specs.Table.{fields_of}
 use Rattle.kt_tree.specs.declared.expr.Constant.TheVariants as constant
 use Rattle.kt_tree.specs.declared.expr.Operation.{Operation}
 use Rattle.kt_tree.specs.declared.expr.Operation.TheVariants as operation
 use Rattle.kt_tree.specs.declared.expr.Request.TheVariants as request
 use Rattle.kt_tree.specs.Tree.{Expression, Constant', LocalRead, LocalSet, LocalSwapped, Operated, Requested, Modified, Both, Either, Chosen, NoMore, More}
-use Rattle.kt_tree.specs.Kinds.{char_type, int_type, long_type, common}
+use Rattle.kt_check.specs.declared.ctype.CType.{CType}
+use Rattle.kt_check.specs.Types.{char, int, long, pointer_to, pointee, is_integer, is_pointer, is_scalar, same_ctype, common}
 use Rattle.kt_check.specs.declared.fault.CheckFault.TheVariants.{Unknown, BadType, Incomplete}
 use Rattle.kt_check.specs.Checked.{Checked, fault, and_then, both, found}
-use Rattle.kt_check.specs.Environment.{Environment, Found, type_at, is_integer, is_pointer, is_scalar, is_complete, pointee, pointer_to, struct_of, element_of, field_in}
-use Rattle.kt_check.specs.Operands.{Operand, Valued, Zero, Null, LocalPlace, CellPlace, ArrayPlace, WholePlace, NoResult, Value, value_of_type, zero, null_of, value, scalar, integer, pointer, converted_to, convert}
+use Rattle.kt_check.specs.Environment.{Environment, Struct, Found, is_struct, struct_in, is_complete, field_from}
+use Rattle.kt_check.specs.Operands.{Operand, Valued, Zero, Null, LocalPlace, CellPlace, ArrayPlace, WholePlace, NoResult, Value, value_of_type, number_value, zero, null_of, value, scalar, integer, pointer, converted_to, convert}
 
-abbrev pub operated : Operation → ℕ → Expression → Expression → Expression
-operated op t a b = Operated op t (More a (More b NoMore))
+abbrev pub operated : Environment → Operation → CType → Expression → Expression → Expression
+operated env op t a b = Operated op (env.place t) (More a (More b NoMore))
 
 -- ---- constants
 
 -- a number; the one spelled `0` converts to pointers
-abbrev pub number : Number → Operand
-number n =
+abbrev pub number_type : Number → CType
+number_type n = if n.long then long else int
+
+abbrev pub number : Environment → Number → Operand
+number env n =
     if (n.value == 0) && not n.long && not n.hexadecimal then Zero
-    else Valued (if n.long then long_type else int_type) (Constant' (constant.Number (pos n.value)) (if n.long then long_type else int_type))
+    else Valued (number_type n) (number_value env (number_type n) (pos n.value))
 
 -- ---- places
 
 -- the place of a type at a pointer to it
-abbrev pub place_at : Environment → ℕ → Expression → Operand
-place_at env t p = if is_scalar env t then CellPlace t p else WholePlace t p
+abbrev pub place_at : CType → Expression → Operand
+place_at t p = if is_scalar t then CellPlace t p else WholePlace t p
 
 -- `a[i]`
-abbrev pub element_place : Environment → ℕ → Value → Value → Option ℕ → Checked Operand
+abbrev pub element_place : Environment → ℕ → Value → Value → Option CType → Checked Operand
 element_place env at p i None = fault (BadType at)
 element_place env at p i (Some e) =
-    if is_complete env e then Ok (place_at env e (operated (operation.ElementAfter e) p.ty p.expression i.expression))
+    if is_complete env e then Ok (place_at e (operated env (operation.ElementAfter (env.place e)) p.ty p.expression i.expression))
     else fault (Incomplete at)
 
 abbrev pub element : Environment → ℕ → ℕ → Operand → Operand → Checked Operand
 element env at right a i =
-    and_then (both (pointer env at at a) (integer env right at i)) (λ x. element_place env at x.0 x.1 (pointee env x.0.ty))
+    and_then (both (pointer env at at a) (integer env right at i)) (λ x. element_place env at x.0 x.1 (pointee x.0.ty))
 
 -- the place of a field: an array field is one of its elements' type
-abbrev pub field_of : Environment → ℕ → Expression → Found → Option ℕ → Operand
-field_of env s p f None = place_at env f.ty (Operated (operation.Field s f.index) (pointer_to env f.ty) (More p NoMore))
-field_of env s p f (Some e) = ArrayPlace e (Operated (operation.Field s f.index) (pointer_to env e) (More p NoMore))
+abbrev pub field_pointer : Environment → ℕ → Expression → Found → Expression
+field_pointer env s p f = Operated (operation.Field s f.index) (env.place (pointer_to f.field.ty)) (More p NoMore)
 
-abbrev pub field_place : Environment → ℕ → Expression → Name → Option ℕ → Checked Operand
-field_place env at p f None = fault (BadType at)
-field_place env at p f (Some s) =
-    if is_some (fields_of env.table s)
-    then and_then (found (field_in env s f.word) (Unknown f.at)) (λ x. Ok (field_of env s p x (element_of (type_at env x.ty))))
-    else fault (Incomplete at)
+abbrev pub field_of : Environment → ℕ → Expression → Found → Operand
+field_of env s p f =
+    if f.field.array then ArrayPlace f.field.ty (field_pointer env s p f) else place_at f.field.ty (field_pointer env s p f)
+
+-- the field of a struct at a pointer, where the struct is defined before here
+abbrev pub field_place : Environment → ℕ → Expression → Name → Option Struct → Checked Operand
+field_place env at p f None = fault (Incomplete at)
+field_place env at p f (Some d) = and_then (found (field_from 0 d.fields f.word) (Unknown f.at)) (λ x. Ok (field_of env d.number p x))
+
+abbrev pub struct_field : Environment → ℕ → Expression → Name → CType → Checked Operand
+struct_field env at p f t = if is_struct t then field_place env at p f (struct_in env t) else fault (BadType at)
 
 -- `s.f`
 abbrev pub member : Environment → ℕ → Operand → Name → Checked Operand
-member env at (WholePlace t p) f = field_place env at p f (struct_of (type_at env t))
+member env at (WholePlace t p) f = struct_field env at p f t
 member env at _ f = fault (BadType at)
 
-abbrev pub struct_at : Environment → Option ℕ → Option ℕ
-struct_at env None = None
-struct_at env (Some e) = struct_of (type_at env e)
+abbrev pub pointed_field : Environment → ℕ → Expression → Name → Option CType → Checked Operand
+pointed_field env at p f None = fault (BadType at)
+pointed_field env at p f (Some t) = struct_field env at p f t
 
 -- `p->f`
 abbrev pub pointed : Environment → ℕ → Operand → Name → Checked Operand
-pointed env at a f = and_then (pointer env at at a) (λ p. field_place env at p.expression f (struct_at env (pointee env p.ty)))
+pointed env at a f = and_then (pointer env at at a) (λ p. pointed_field env at p.expression f (pointee p.ty))
 
 -- ---- arithmetic
 
 -- what an operation is done at, and which it is
 pub record Combined : Type 0 where
   pub operation : Operation
-  pub own : ℕ
+  pub own : CType
 
 abbrev pub arithmetic_of : BinaryOperator → Option Operation
 arithmetic_of binary.Add = Some operation.Add
@@ -109,53 +114,53 @@ moving_of binary.Add e = Some (operation.ElementAfter e)
 moving_of binary.Subtract e = Some (operation.ElementBefore e)
 moving_of _ e = None
 
-abbrev pub moved : Environment → ℕ → ℕ → Option ℕ → BinaryOperator → Checked Combined
+abbrev pub moved : Environment → ℕ → CType → Option CType → BinaryOperator → Checked Combined
 moved env at t None op = fault (BadType at)
 moved env at t (Some e) op =
-    and_then (found (moving_of op e) (BadType at)) (λ m. if is_complete env e then Ok (record { operation = m; own = t }) else fault (Incomplete at))
+    and_then (found (moving_of op (env.place e)) (BadType at)) (λ m. if is_complete env e then Ok (record { operation = m; own = t }) else fault (Incomplete at))
 
 -- the operation of two integers, or of a pointer and an integer
-abbrev pub combined : Environment → ℕ → BinaryOperator → ℕ → ℕ → Checked Combined
+abbrev pub combined : Environment → ℕ → BinaryOperator → CType → CType → Checked Combined
 combined env at op a b =
-    if is_integer env a && is_integer env b
+    if is_integer a && is_integer b
     then and_then (found (arithmetic_of op) (BadType at)) (λ o. Ok (record { operation = o; own = common a b }))
-    else (if is_integer env b then moved env at a (pointee env a) op
+    else (if is_integer b then moved env at a (pointee a) op
     else fault (BadType at))
 
-abbrev pub elements_between : Environment → ℕ → Value → Value → Option ℕ → Checked Operand
+abbrev pub elements_between : Environment → ℕ → Value → Value → Option CType → Checked Operand
 elements_between env at p q None = fault (BadType at)
 elements_between env at p q (Some e) =
-    if is_complete env e then Ok (Valued long_type (operated (operation.ElementsBetween e) long_type p.expression q.expression))
+    if is_complete env e then Ok (Valued long (operated env (operation.ElementsBetween (env.place e)) long p.expression q.expression))
     else fault (Incomplete at)
 
-abbrev pub in_order : Combined → Value → Value → Operand
-in_order c a b = Valued c.own (operated c.operation c.own a.expression b.expression)
+abbrev pub in_order : Environment → Combined → Value → Value → Operand
+in_order env c a b = Valued c.own (operated env c.operation c.own a.expression b.expression)
 
 -- `a + b` and its kin, of values: an integer may stand before the pointer that it moves
 abbrev pub sum_of : Environment → ℕ → BinaryOperator → Value → Value → Checked Operand
 sum_of env at binary.Subtract a b =
-    if is_pointer env a.ty && (a.ty == b.ty) then elements_between env at a b (pointee env a.ty)
-    else and_then (combined env at binary.Subtract a.ty b.ty) (λ c. Ok (in_order c a b))
+    if is_pointer a.ty && same_ctype a.ty b.ty then elements_between env at a b (pointee a.ty)
+    else and_then (combined env at binary.Subtract a.ty b.ty) (λ c. Ok (in_order env c a b))
 sum_of env at binary.Add a b =
-    if is_integer env a.ty && is_pointer env b.ty then and_then (combined env at binary.Add b.ty a.ty) (λ c. Ok (in_order c a b))
-    else and_then (combined env at binary.Add a.ty b.ty) (λ c. Ok (in_order c a b))
-sum_of env at op a b = and_then (combined env at op a.ty b.ty) (λ c. Ok (in_order c a b))
+    if is_integer a.ty && is_pointer b.ty then and_then (combined env at binary.Add b.ty a.ty) (λ c. Ok (in_order env c a b))
+    else and_then (combined env at binary.Add a.ty b.ty) (λ c. Ok (in_order env c a b))
+sum_of env at op a b = and_then (combined env at op a.ty b.ty) (λ c. Ok (in_order env c a b))
 
 -- ---- comparisons and logic
 
 -- two integers, or two pointers of one type
-abbrev pub comparable : Environment → ℕ → ℕ → Bool
-comparable env a b = (is_integer env a && is_integer env b) || (is_pointer env a && (a == b))
+abbrev pub comparable : CType → CType → Bool
+comparable a b = (is_integer a && is_integer b) || (is_pointer a && same_ctype a b)
 
 abbrev pub compared : Environment → ℕ → Operation → Value → Value → Checked Operand
 compared env at op a b =
-    if comparable env a.ty b.ty then Ok (Valued int_type (operated op int_type a.expression b.expression)) else fault (BadType at)
+    if comparable a.ty b.ty then Ok (Valued int (operated env op int a.expression b.expression)) else fault (BadType at)
 
 -- `==` and `!=` compare null with a pointer too, and with null
 abbrev pub with_null : Environment → ℕ → ℕ → Operand → Operand → Checked (Value × Value)
 with_null env at right Null Null = both (scalar env at at Null) (scalar env right at Null)
-with_null env at right Null b = and_then (pointer env right at b) (λ v. Ok (value_of_type v.ty (null_of v.ty), v))
-with_null env at right a Null = and_then (pointer env at at a) (λ v. Ok (v, value_of_type v.ty (null_of v.ty)))
+with_null env at right Null b = and_then (pointer env right at b) (λ v. Ok (value_of_type v.ty (null_of env v.ty), v))
+with_null env at right a Null = and_then (pointer env at at a) (λ v. Ok (v, value_of_type v.ty (null_of env v.ty)))
 with_null env at right a b = both (value env at at a) (value env right at b)
 
 abbrev pub equal : Environment → ℕ → ℕ → Operation → Operand → Operand → Checked Operand
@@ -163,8 +168,8 @@ equal env at right op a b = and_then (with_null env at right a b) (λ x. compare
 
 -- a binary operator
 abbrev pub operator : Environment → ℕ → ℕ → BinaryOperator → Operand → Operand → Checked Operand
-operator env at right binary.And a b = and_then (both (scalar env at at a) (scalar env right at b)) (λ x. Ok (Valued int_type (Both x.0.expression x.1.expression)))
-operator env at right binary.Or a b = and_then (both (scalar env at at a) (scalar env right at b)) (λ x. Ok (Valued int_type (Either x.0.expression x.1.expression)))
+operator env at right binary.And a b = and_then (both (scalar env at at a) (scalar env right at b)) (λ x. Ok (Valued int (Both x.0.expression x.1.expression)))
+operator env at right binary.Or a b = and_then (both (scalar env at at a) (scalar env right at b)) (λ x. Ok (Valued int (Either x.0.expression x.1.expression)))
 operator env at right binary.Equal a b = equal env at right operation.Equal a b
 operator env at right binary.NotEqual a b = equal env at right operation.NotEqual a b
 operator env at right op a b =
@@ -172,22 +177,22 @@ operator env at right op a b =
     (λ x. elim (comparison_of op) as (λ _. Checked Operand) [ None ↦ sum_of env at op x.0 x.1 | (Some o) ↦ compared env at o x.0 x.1 ])
 
 -- `c ? a : b`, whose arms begin at `one` and `other`
-abbrev pub arms : Environment → ℕ → Value → Value → Option ℕ
-arms env at a b =
-    if is_integer env a.ty && is_integer env b.ty then Some (common a.ty b.ty)
-    else (if is_pointer env a.ty && (a.ty == b.ty) then Some a.ty else None)
+abbrev pub arms : Value → Value → Option CType
+arms a b =
+    if is_integer a.ty && is_integer b.ty then Some (common a.ty b.ty)
+    else (if is_pointer a.ty && same_ctype a.ty b.ty then Some a.ty else None)
 
 -- one arm may be null, which is then of the other's type
 abbrev pub arm_values : Environment → ℕ → ℕ → ℕ → Operand → Operand → Checked (Value × Value)
 arm_values env at one other Null Null = both (scalar env one at Null) (scalar env other at Null)
-arm_values env at one other Null b = and_then (pointer env other at b) (λ v. Ok (value_of_type v.ty (null_of v.ty), v))
-arm_values env at one other a Null = and_then (pointer env one at a) (λ v. Ok (v, value_of_type v.ty (null_of v.ty)))
+arm_values env at one other Null b = and_then (pointer env other at b) (λ v. Ok (value_of_type v.ty (null_of env v.ty), v))
+arm_values env at one other a Null = and_then (pointer env one at a) (λ v. Ok (v, value_of_type v.ty (null_of env v.ty)))
 arm_values env at one other a b = both (value env one at a) (value env other at b)
 
 abbrev pub choice : Environment → ℕ → ℕ → ℕ → Operand → Operand → Operand → Checked Operand
 choice env at one other c a b =
     and_then (both (scalar env at at c) (arm_values env at one other a b))
-    (λ x. and_then (found (arms env at x.1.0 x.1.1) (BadType at)) (λ t. Ok (Valued t (Chosen x.0.expression t x.1.0.expression x.1.1.expression))))
+    (λ x. and_then (found (arms x.1.0 x.1.1) (BadType at)) (λ t. Ok (Valued t (Chosen x.0.expression (env.place t) x.1.0.expression x.1.1.expression))))
 
 -- ---- assignment and the unary operators
 
@@ -200,20 +205,23 @@ compound_of assign.Divide = Some binary.Divide
 compound_of assign.Remainder = Some binary.Remainder
 
 -- what is combined with a local's value, as the local takes it
-abbrev pub local_changed : Bool → ℕ → ℕ → Combined → Value → Expression
-local_changed false x t c v = LocalSet x (converted_to t (value_of_type c.own (operated c.operation c.own (LocalRead x) v.expression)))
-local_changed true x t c v = LocalSwapped x (converted_to t (value_of_type c.own (operated c.operation c.own (LocalRead x) v.expression)))
+abbrev pub local_combined : Environment → ℕ → CType → Combined → Value → Expression
+local_combined env x t c v = converted_to env t (value_of_type c.own (operated env c.operation c.own (LocalRead x) v.expression))
+
+abbrev pub local_changed : Bool → ℕ → Expression → Expression
+local_changed false x e = LocalSet x e
+local_changed true x e = LocalSwapped x e
 
 -- `x op= e`; with `old` the value of the whole is the one before
 abbrev pub changed : Environment → ℕ → Bool → BinaryOperator → Operand → Value → Checked Operand
-changed env at old op (LocalPlace x t) v = and_then (combined env at op t v.ty) (λ c. Ok (Valued t (local_changed old x t c v)))
-changed env at old op (CellPlace t p) v = and_then (combined env at op t v.ty) (λ c. Ok (Valued t (Modified c.operation c.own t old p v.expression)))
+changed env at old op (LocalPlace x t) v = and_then (combined env at op t v.ty) (λ c. Ok (Valued t (local_changed old x (local_combined env x t c v))))
+changed env at old op (CellPlace t p) v = and_then (combined env at op t v.ty) (λ c. Ok (Valued t (Modified c.operation (env.place c.own) (env.place t) old p v.expression)))
 changed env at old op _ v = fault (BadType at)
 
 -- `x = e`
 abbrev pub assigned : Environment → ℕ → ℕ → Operand → Operand → Checked Operand
 assigned env at right (LocalPlace x t) e = and_then (convert env t right at e) (λ v. Ok (Valued t (LocalSet x v)))
-assigned env at right (CellPlace t p) e = and_then (convert env t right at e) (λ v. Ok (Valued t (Requested request.Store (Some t) (More p (More v NoMore)))))
+assigned env at right (CellPlace t p) e = and_then (convert env t right at e) (λ v. Ok (Valued t (Requested request.Store (Some (env.place t)) (More p (More v NoMore)))))
 assigned env at right _ e = fault (BadType at)
 
 abbrev pub assignment : Environment → ℕ → ℕ → AssignOperator → Operand → Operand → Checked Operand
@@ -221,30 +229,30 @@ assignment env at right op a e =
     elim (compound_of op) as (λ _. Checked Operand)
     [ None ↦ assigned env at right a e | (Some o) ↦ and_then (value env right at e) (λ v. changed env at false o a v) ]
 
-abbrev pub one : Value
-one = value_of_type int_type (Constant' (constant.Number (pos 1)) int_type)
+abbrev pub one : Environment → Value
+one env = value_of_type int (number_value env int (pos 1))
 
 abbrev pub step_operator : StepOperator → BinaryOperator
 step_operator step.Increment = binary.Add
 step_operator step.Decrement = binary.Subtract
 
 -- `*p`
-abbrev pub dereferenced : Environment → ℕ → Value → Option ℕ → Checked Operand
-dereferenced env at p None = fault (BadType at)
-dereferenced env at p (Some e) = Ok (place_at env e p.expression)
+abbrev pub dereferenced : ℕ → Value → Option CType → Checked Operand
+dereferenced at p None = fault (BadType at)
+dereferenced at p (Some e) = Ok (place_at e p.expression)
 
 -- `&x`
-abbrev pub address_of : Environment → ℕ → Operand → Checked Operand
-address_of env at (CellPlace t p) = Ok (Valued (pointer_to env t) p)
-address_of env at (WholePlace t p) = Ok (Valued (pointer_to env t) p)
-address_of env at _ = fault (BadType at)
+abbrev pub address_of : ℕ → Operand → Checked Operand
+address_of at (CellPlace t p) = Ok (Valued (pointer_to t) p)
+address_of at (WholePlace t p) = Ok (Valued (pointer_to t) p)
+address_of at _ = fault (BadType at)
 
 -- a prefix operator at `at` and its operand, which begins at `inner`
 abbrev pub unary : Environment → ℕ → ℕ → PrefixOperator → Operand → Checked Operand
 unary env at inner prefix.Negate a =
-    and_then (integer env inner at a) (λ v. Ok (Valued (common v.ty v.ty) (operated operation.Subtract (common v.ty v.ty) zero v.expression)))
-unary env at inner prefix.Not a = and_then (scalar env inner at a) (λ v. Ok (Valued int_type (Operated operation.Not int_type (More v.expression NoMore))))
-unary env at inner prefix.Dereference a = and_then (pointer env inner at a) (λ p. dereferenced env at p (pointee env p.ty))
-unary env at inner prefix.AddressOf a = address_of env at a
-unary env at inner prefix.Increment a = changed env at false binary.Add a one
-unary env at inner prefix.Decrement a = changed env at false binary.Subtract a one
+    and_then (integer env inner at a) (λ v. Ok (Valued (common v.ty v.ty) (operated env operation.Subtract (common v.ty v.ty) (zero env) v.expression)))
+unary env at inner prefix.Not a = and_then (scalar env inner at a) (λ v. Ok (Valued int (Operated operation.Not (env.place int) (More v.expression NoMore))))
+unary env at inner prefix.Dereference a = and_then (pointer env inner at a) (λ p. dereferenced at p (pointee p.ty))
+unary env at inner prefix.AddressOf a = address_of at a
+unary env at inner prefix.Increment a = changed env at false binary.Add a (one env)
+unary env at inner prefix.Decrement a = changed env at false binary.Subtract a (one env)

@@ -11,21 +11,21 @@ use Rattle.kt_syntax.specs.declared.tree.Extent.{Extent}
 use Rattle.kt_syntax.specs.declared.tree.Extent.TheVariants as extent
 use Rattle.kt_syntax.specs.declared.tree.Pointer.{Pointer}
 use Rattle.kt_syntax.specs.Tree.{Local, Declaration, Start, NoStart, Declares, Evaluates, Statement as Syntax, Declared, Compound as Block, Empty, Evaluated as Expr, Returned as Return, Broken as Break, Continued as Continue, Conditional as If, Alternative as IfElse, Looped as While, Repeated as Do, Counted as For, Statements as Entries, Nothing as NoEntries, More as Entry}
-use Rattle.kt_types.specs.Table.{Table}
+use Rattle.kt_check.specs.declared.ctype.CType.{CType}
 use Rattle.kt_tree.specs.Tree.{Expression, LocalRead, LocalSet, Statement, Evaluated, Undefined, Compound, Conditional, Looped, Repeated, Returned, Broken, Continued, Statements, Done, Then}
 use Rattle.kt_check.specs.declared.fault.CheckFault.TheVariants.{Unknown, Twice, BadType, Incomplete, Note}
 use Rattle.kt_check.specs.Checked.{Checked, fault, and_then, both, holds}
-use Rattle.kt_check.specs.Environment.{Environment, Visible, Outer, Global, is_integer, is_scalar, is_complete}
+use Rattle.kt_check.specs.Environment.{Environment, Visible, Outer, Global, is_complete}
 use Rattle.kt_check.specs.Operands.{Operand, Valued, Zero, Null, WholePlace, NoResult as NoValue, value, scalar, convert, zero}
 use Rattle.kt_check.specs.Builtins.{builtin_named}
 use Rattle.kt_check.specs.Terms.{typing, first_token}
-use Rattle.kt_check.specs.Types.{starred_place}
+use Rattle.kt_check.specs.Types.{is_integer, is_scalar, ctype}
 use Rattle.kt_check.specs.Uses.{stars_of}
 
 -- what holds in the whole body of a function: its result, the names of its locals in the order of their declarations
 pub record Body : Type 0 where
   pub environment : Environment
-  pub result : Option ℕ
+  pub result : Option CType
   pub names : List (List ℕ)
 
 -- where a body is typed: the locals in scope, the names of the innermost scope, and how many locals were declared before
@@ -55,29 +55,28 @@ abbrev pub declarator_place : Option Pointer → Name → ℕ
 declarator_place None n = n.at
 declarator_place (Some p) n = p.stars.at
 
--- a struct that is declared by value is defined before
-abbrev pub by_value : Environment → Base → ℕ → Checked ℕ
-by_value env b (suc stars) = Ok (starred_place env.table.structs env.table.types b (suc stars))
-by_value env (base.Struct n) stars =
-    if is_complete env (starred_place env.table.structs env.table.types (base.Struct n) stars)
-    then Ok (starred_place env.table.structs env.table.types (base.Struct n) stars) else fault (Incomplete n.at)
-by_value env b stars = Ok (starred_place env.table.structs env.table.types b stars)
+-- where a base names a struct
+abbrev pub struct_place : Base → ℕ
+struct_place (base.Struct n) = n.at
+struct_place _ = 0
+
+-- the type of a declarator; a struct that is declared by value is defined before
+abbrev pub by_value : Environment → Base → ℕ → Checked CType
+by_value env b stars = if is_complete env (ctype env.names b stars) then Ok (ctype env.names b stars) else fault (Incomplete (struct_place b))
 
 -- what a function may hold: an integer or a pointer
-abbrev pub held : Environment → Base → Option Pointer → Name → Checked ℕ
+abbrev pub held : Environment → Base → Option Pointer → Name → Checked CType
 held env b p n =
-    and_then (both (by_value env b (stars_of p))
-      (holds (is_scalar env (starred_place env.table.structs env.table.types b (stars_of p))) (BadType (declarator_place p n))))
-    (λ x. Ok x.0)
+    and_then (both (by_value env b (stars_of p)) (holds (is_scalar (ctype env.names b (stars_of p))) (BadType (declarator_place p n)))) (λ x. Ok x.0)
 
 -- an integer global that is no array
-abbrev pub is_count : Environment → Option Outer → Bool
-is_count env (Some (Global g t array)) = not array && is_integer env t
-is_count env _ = false
+abbrev pub is_count : Option Outer → Bool
+is_count (Some (Global g t array)) = not array && is_integer t
+is_count _ = false
 
 -- `E_PTRARRAY` outside a struct names a global or a number of at most 65,536
 abbrev pub extent_outside : Environment → Extent → Checked (Unit {0})
-extent_outside env (extent.Name n) = holds (is_count env (env.outer n.word)) (Unknown n.at)
+extent_outside env (extent.Name n) = holds (is_count (env.outer n.word)) (Unknown n.at)
 extent_outside env (extent.Number at n) = holds (nat_le n.value 65536) (Unknown at)
 
 abbrev pub pointer_outside : Environment → Option Pointer → Checked (Unit {0})
@@ -91,7 +90,7 @@ new_name body s n =
     else holds (not (body.environment.noted && contains (take s.next body.names) n.word)) (Note n.at)
 
 -- a local's initial value, in whose scope the local is
-abbrev pub initial : Body → State → ℕ → ℕ → ℕ → Option Term → Checked Statement
+abbrev pub initial : Body → State → ℕ → CType → ℕ → Option Term → Checked Statement
 initial body s x t up None = Ok (Undefined x)
 initial body s x t up (Some e) =
     and_then (typing (here body s) e)
@@ -104,8 +103,7 @@ local body s b l =
     (both (held (here body s) b l.pointer l.name)
     (both (pointer_outside (here body s) l.pointer)
     (both (new_name body s l.name)
-    (initial body (declared s l.name.word) s.next (starred_place body.environment.table.structs body.environment.table.types b (stars_of l.pointer))
-      (declarator_place l.pointer l.name) l.initial))))
+    (initial body (declared s l.name.word) s.next (ctype body.environment.names b (stars_of l.pointer)) (declarator_place l.pointer l.name) l.initial))))
     (λ x. Ok (x.1.1.1, declared s l.name.word))
 
 -- locals of one base

@@ -22,13 +22,11 @@ use Rattle.kt_types.specs.declared.kinds.Ty.{Ty}
 use Rattle.kt_types.specs.declared.kinds.Ty.TheVariants as ty
 use Rattle.kt_types.specs.declared.kinds.View.{View}
 use Rattle.kt_types.specs.declared.kinds.View.TheVariants as view
-use Rattle.kt_types.specs.declared.kinds.FieldDecl.{FieldDecl}
-use Rattle.kt_types.specs.Table.{Table, Definition as StructDefinition}
-use Rattle.kt_tree.specs.Kinds.{is_integer_type}
+use Rattle.kt_check.specs.declared.ctype.CType.{CType}
 use Rattle.kt_check.specs.declared.builtin.Builtin.{Builtin}
 use Rattle.kt_check.specs.declared.builtin.Builtin.TheVariants as builtin
 use Rattle.kt_check.specs.Uses.{stars_of, result_stars, where_there, uses_of, structs_of}
-use Rattle.kt_check.specs.Types.{with_names, number_of_struct, with_uses, scalars, place_of_type, starred_place}
+use Rattle.kt_check.specs.Types.{with_names, with_uses, scalars, place_in, ctype}
 use Rattle.kt_check.specs.Environment.{Outer, Global, Function, Declared}
 use Rattle.kt_check.specs.Builtins.{builtin_named}
 
@@ -41,12 +39,8 @@ struct_names xs = with_names [] (structs_of xs)
 abbrev pub types_of : List External → List Ty
 types_of xs = with_uses (struct_names xs) scalars (uses_of xs)
 
--- the table of a file before its structs are defined
-abbrev pub table_of : List External → Table
-table_of xs = record { types = types_of xs; structs = struct_names xs; defined = [] }
-
-abbrev pub declared_type : Table → Base → Option Pointer → ℕ
-declared_type t b p = starred_place t.structs t.types b (stars_of p)
+abbrev pub declared_type : List (List ℕ) → Base → Option Pointer → CType
+declared_type structs b p = ctype structs b (stars_of p)
 
 -- ---- what a file declares outside functions
 
@@ -82,14 +76,14 @@ abbrev pub first_by : {A : Type 0} → (A → Bool) → List A → Option A
 first_by test [] = None
 first_by test (x ∷ rest) = if test x then Some x else first_by test rest
 
-abbrev pub result_type : Table → Routine → Option ℕ
-result_type t f = option_map (λ b. starred_place t.structs t.types b (result_stars f.stars)) f.result
+abbrev pub result_type : List (List ℕ) → Routine → Option CType
+result_type t f = option_map (λ b. ctype t b (result_stars f.stars)) f.result
 
-abbrev pub parameter_types : Table → Routine → List ℕ
+abbrev pub parameter_types : List (List ℕ) → Routine → List CType
 parameter_types t f = map (λ p. declared_type t p.base p.pointer) f.parameters
 
 -- a function as its first declaration has it, with its number among the definitions
-abbrev pub function_named : Table → List External → List ℕ → Option Declared
+abbrev pub function_named : List (List ℕ) → List External → List ℕ → Option Declared
 function_named t xs n =
     option_map
     (λ f. record { parameters = parameter_types t f; result = result_type t f; number = position_from (λ g. bytes_eq g.name.word n) 0 (defined_of xs) })
@@ -98,19 +92,19 @@ function_named t xs n =
 abbrev pub global_name : OuterGlobal → List ℕ
 global_name g = g.declarator.declarator.name.word
 
-abbrev pub global_type : Table → OuterGlobal → ℕ
+abbrev pub global_type : List (List ℕ) → OuterGlobal → CType
 global_type t g = declared_type t g.base g.declarator.declarator.pointer
 
 abbrev pub is_array : OuterGlobal → Bool
 is_array g = is_some g.declarator.declarator.count
 
-abbrev pub global_from : Table → ℕ → List OuterGlobal → List ℕ → Option Outer
+abbrev pub global_from : List (List ℕ) → ℕ → List OuterGlobal → List ℕ → Option Outer
 global_from t n [] name = None
 global_from t n (g ∷ rest) name =
     if bytes_eq (global_name g) name then Some (Global n (global_type t g) (is_array g)) else global_from t (suc n) rest name
 
 -- what a name of the file stands for: a global, or else a function
-abbrev pub outer_named : Table → List External → List ℕ → Option Outer
+abbrev pub outer_named : List (List ℕ) → List External → List ℕ → Option Outer
 outer_named t xs n = elim (global_from t 0 (globals_of xs) n) as (λ _. Option Outer)
     [ (Some g) ↦ Some g | None ↦ option_map Function (function_named t xs n) ]
 
@@ -118,22 +112,22 @@ outer_named t xs n = elim (global_from t 0 (globals_of xs) n) as (λ _. Option O
 
 pub record DeclaredLocal : Type 0 where
   pub name : List ℕ
-  pub ty : ℕ
+  pub ty : CType
   pub base : Base
   pub pointer : Option Pointer
 
-abbrev pub parameter_local : Table → Parameter → DeclaredLocal
+abbrev pub parameter_local : List (List ℕ) → Parameter → DeclaredLocal
 parameter_local t p = record { name = p.name.word; ty = declared_type t p.base p.pointer; base = p.base; pointer = p.pointer }
 
-abbrev pub locals_in : Table → Declaration → List DeclaredLocal
+abbrev pub locals_in : List (List ℕ) → Declaration → List DeclaredLocal
 locals_in t x = map (λ l. record { name = l.name.word; ty = declared_type t x.base l.pointer; base = x.base; pointer = l.pointer }) x.locals
 
-abbrev pub start_locals : Table → Start → List DeclaredLocal
+abbrev pub start_locals : List (List ℕ) → Start → List DeclaredLocal
 start_locals t (Declares x) = locals_in t x
 start_locals t _ = []
 
 abbrev mutual
-  pub statement_locals : Table → Statement → List DeclaredLocal
+  pub statement_locals : List (List ℕ) → Statement → List DeclaredLocal
   statement_locals t (DeclaredLocals x) = locals_in t x
   statement_locals t (Compound block) = block_locals t block
   statement_locals t (Conditional c s) = statement_locals t s
@@ -143,12 +137,12 @@ abbrev mutual
   statement_locals t (Counted start test step s) = start_locals t start ++ statement_locals t s
   statement_locals t _ = []
 
-  pub block_locals : Table → Statements → List DeclaredLocal
+  pub block_locals : List (List ℕ) → Statements → List DeclaredLocal
   block_locals t NoStatements = []
   block_locals t (Then s rest) = statement_locals t s ++ block_locals t rest
 
 -- the parameters, and then all locals of the body in the order of their declarations
-abbrev pub locals_of : Table → Routine → List DeclaredLocal
+abbrev pub locals_of : List (List ℕ) → Routine → List DeclaredLocal
 locals_of t f = map (parameter_local t) f.parameters ++ where_there (λ b. block_locals t b.entries) f.body
 
 -- ---- literals and points
@@ -259,9 +253,9 @@ point_names xs = with_names (update_names xs) (asks_in (written_of xs))
 -- ---- views (E_PTRARRAY)
 
 -- a plain `char *` points to a whole object, another plain pointer to one element
-abbrev pub plain_view : Table → Base → Option Pointer → View
-plain_view t base.Char (Some p) = if p.stars.count == 1 then view.Whole else view.One
-plain_view t b p = view.One
+abbrev pub plain_view : Base → Option Pointer → View
+plain_view base.Char (Some p) = if p.stars.count == 1 then view.Whole else view.One
+plain_view b p = view.One
 
 abbrev pub global_view : Option Outer → View
 global_view (Some (Global n t array)) = view.Global n
@@ -276,5 +270,5 @@ abbrev pub extent_of : Option Pointer → Option Extent
 extent_of None = None
 extent_of (Some p) = p.extent
 
-abbrev pub view_of : Table → (List ℕ → Option Outer) → Base → Option Pointer → View
-view_of t outer b p = elim (extent_of p) as (λ _. View) [ None ↦ plain_view t b p | (Some e) ↦ outer_view outer e ]
+abbrev pub view_of : (List ℕ → Option Outer) → Base → Option Pointer → View
+view_of outer b p = elim (extent_of p) as (λ _. View) [ None ↦ plain_view b p | (Some e) ↦ outer_view outer e ]

@@ -10,18 +10,17 @@ use Rattle.kt_grammar.specs.declared.tree.Base.TheVariants as base
 use Rattle.kt_grammar.specs.declared.tree.Name.{Name}
 use Rattle.kt_grammar.specs.declared.tree.TypeName.{TypeName}
 use Rattle.kt_grammar.specs.Tree.{Term, Constant, Character, Text, Null as NullTerm, Eof, Named, Called, Parenthesised, SizeOf, RuleValue, OldSymbol, Transformed, Element, Member, Pointed, Stepped, Prefixed, Converted, Operated as OperatedTerm, Chosen as ChosenTerm, Assigned, Terms, Nothing, More as MoreTerms}
-use Rattle.kt_types.specs.declared.kinds.Ty.TheVariants as ty
 use Rattle.kt_tree.specs.declared.expr.Constant.TheVariants as constant
 use Rattle.kt_tree.specs.declared.expr.Request.TheVariants as request
 use Rattle.kt_tree.specs.Tree.{Expression, Constant', Requested, Called as CalledExpression, Expressions, NoMore, More}
-use Rattle.kt_tree.specs.Kinds.{char_type, int_type, mutex_type}
+use Rattle.kt_check.specs.declared.ctype.CType.{CType}
 use Rattle.kt_check.specs.declared.builtin.Builtin.{Builtin}
 use Rattle.kt_check.specs.declared.builtin.Builtin.TheVariants as builtin
 use Rattle.kt_check.specs.declared.fault.CheckFault.TheVariants.{Unknown, BadType, Incomplete, Entry, Note}
 use Rattle.kt_check.specs.Checked.{Checked, fault, and_then, both, found}
-use Rattle.kt_check.specs.Types.{place_of_type, base_type, starred_place}
-use Rattle.kt_check.specs.Environment.{Environment, Outer, Global, Function, Declared, local_named, type_at, is_integer, is_scalar, is_complete, pointer_to, element_of}
-use Rattle.kt_check.specs.Operands.{Operand, Valued, Zero, Null, LocalPlace, CellPlace, ArrayPlace, WholePlace, NoResult, Value, value_of_type, value, scalar, integer, pointer, convert, converted_to}
+use Rattle.kt_check.specs.Types.{char, int, mutex, pointer_to, pointee, is_integer, is_pointer, same_ctype, ctype}
+use Rattle.kt_check.specs.Environment.{Environment, Outer, Global, Function, Declared, local_named, is_complete}
+use Rattle.kt_check.specs.Operands.{Operand, Valued, Zero, Null, LocalPlace, CellPlace, ArrayPlace, WholePlace, NoResult, Value, value_of_type, number_value, value, scalar, integer, pointer, convert, converted_to}
 use Rattle.kt_check.specs.Rules.{number, element, member, pointed, operator, choice, assignment, changed, unary, step_operator, one, place_at}
 use Rattle.kt_check.specs.Builtins.{builtin_named, Argument, one_of, gives, asks_pointer, asks_integer, points_to, printed, updated, updating_from, created, migrated}
 
@@ -51,13 +50,16 @@ first_token (Assigned op a b) = first_token a
 
 -- ---- names
 
-abbrev pub global_place : Environment → ℕ → ℕ → Bool → Operand
-global_place env g t true = ArrayPlace t (Constant' (constant.Global g) (pointer_to env t))
-global_place env g t false = place_at env t (Constant' (constant.Global g) (pointer_to env t))
+abbrev pub global_address : Environment → ℕ → CType → Expression
+global_address env g t = Constant' (constant.Global g) (env.place (pointer_to t))
 
-abbrev pub local_place : Environment → ℕ → Option ℕ → Operand
-local_place env x None = LocalPlace x int_type
-local_place env x (Some t) = LocalPlace x t
+abbrev pub global_place : Environment → ℕ → CType → Bool → Operand
+global_place env g t array = if array then ArrayPlace t (global_address env g t) else place_at t (global_address env g t)
+
+-- (a local that is in scope has a type)
+abbrev pub local_place : ℕ → Option CType → Operand
+local_place x None = LocalPlace x int
+local_place x (Some t) = LocalPlace x t
 
 -- a name of the whole file: a function's has no value, and what is not defined is unknown
 abbrev pub outer_place : Environment → ℕ → Option Outer → Checked Operand
@@ -71,19 +73,20 @@ outer_name env n = if is_some (builtin_named n.word) then fault (BadType n.at) e
 
 abbrev pub named : Environment → Name → Checked Operand
 named env n = elim (local_named env.visible n.word) as (λ _. Checked Operand)
-    [ None ↦ outer_name env n | (Some x) ↦ Ok (local_place env x (slice_get env.locals x)) ]
+    [ None ↦ outer_name env n | (Some x) ↦ Ok (local_place x (slice_get env.locals x)) ]
 
 -- ---- literals, casts
 
--- a string is the literal of its place in the file
-abbrev pub string : Environment → ℕ → Operand
-string env at = elim (position_from (λ p. p == at) 0 env.literals) as (λ _. Operand)
-    [ None ↦ Valued (pointer_to env char_type) (Constant' (constant.Literal 0) (pointer_to env char_type))
-    | (Some n) ↦ Valued (pointer_to env char_type) (Constant' (constant.Literal n) (pointer_to env char_type)) ]
+-- the number of the literal of a place in the file (which has one)
+abbrev pub literal_number : List ℕ → ℕ → ℕ
+literal_number places at = elim (position_from (λ p. p == at) 0 places) as (λ _. ℕ) [ None ↦ 0 | (Some n) ↦ n ]
 
--- the place of a type name's type
-abbrev pub named_type : Environment → TypeName → ℕ
-named_type env t = starred_place env.table.structs env.table.types t.base t.stars
+abbrev pub string : Environment → ℕ → Operand
+string env at = Valued (pointer_to char) (Constant' (constant.Literal (literal_number env.literals at)) (env.place (pointer_to char)))
+
+-- the type of a type name
+abbrev pub named_type : Environment → TypeName → CType
+named_type env t = ctype env.names t.base t.stars
 
 abbrev pub is_allocator : Option Builtin → Bool
 is_allocator (Some builtin.Malloc) = true
@@ -99,8 +102,8 @@ is_allocation _ = false
 -- a cast to an integer type, or to the pointer type of the allocation behind it
 abbrev pub cast : Environment → ℕ → ℕ → TypeName → Bool → Operand → Checked Operand
 cast env at inner t allocates a =
-    if is_integer env (named_type env t) then and_then (integer env inner at a) (λ v. Ok (Valued (named_type env t) (converted_to (named_type env t) v)))
-    else (if allocates then and_then (pointer env inner at a) (λ v. if v.ty == named_type env t then Ok a else fault (BadType at))
+    if is_integer (named_type env t) then and_then (integer env inner at a) (λ v. Ok (Valued (named_type env t) (converted_to env (named_type env t) v)))
+    else (if allocates then and_then (pointer env inner at a) (λ v. if same_ctype v.ty (named_type env t) then Ok a else fault (BadType at))
     else fault (BadType at))
 
 -- ---- calls
@@ -113,19 +116,19 @@ struct_place _ at = at
 -- an allocation of a count of elements of a type name, which has its cells
 abbrev pub allocated : Environment → ℕ → ℕ → TypeName → Bool → Value → Checked Operand
 allocated env up at t zeros v =
-    if is_complete env (named_type env t) then Ok (gives (request.Allocate (named_type env t) zeros) (pointer_to env (named_type env t)) (one_of v.expression))
+    if is_complete env (named_type env t) then Ok (gives env (request.Allocate (env.place (named_type env t)) zeros) (pointer_to (named_type env t)) (one_of v.expression))
     else fault (Incomplete (struct_place t.base at))
 
 abbrev pub bytes_allocated : Environment → Value → Operand
-bytes_allocated env v = gives (request.Allocate char_type false) (pointer_to env char_type) (one_of v.expression)
+bytes_allocated env v = gives env (request.Allocate (env.place char) false) (pointer_to char) (one_of v.expression)
 
 -- the value of a function's call
-abbrev pub result_of : ℕ → Option ℕ → Expressions → Operand
+abbrev pub result_of : ℕ → Option CType → Expressions → Operand
 result_of f None args = NoResult (CalledExpression f args)
 result_of f (Some t) args = Valued t (CalledExpression f args)
 
 -- as many arguments as parameters, each converted
-abbrev pub passed : Environment → ℕ → List ℕ → List Argument → Checked Expressions
+abbrev pub passed : Environment → ℕ → List CType → List Argument → Checked Expressions
 passed env up [] [] = Ok NoMore
 passed env up (p ∷ ps) (x ∷ rest) = and_then (both (and_then x.typed (convert env p x.at up)) (passed env up ps rest)) (λ y. Ok (More y.0 y.1))
 passed env up _ _ = fault (BadType up)
@@ -151,14 +154,14 @@ callable env n = elim (local_named env.visible n.word) as (λ _. Checked Declare
 
 -- a built-in call of typed arguments alone
 abbrev pub plain_builtin : Environment → ℕ → Builtin → List Argument → Checked Operand
-plain_builtin env up builtin.Free (x ∷ []) = and_then (and_then x.typed (scalar env x.at up)) (λ v. if is_integer env v.ty then fault (BadType up) else Ok (NoResult (Requested request.Release None (one_of v.expression))))
-plain_builtin env up builtin.GetChar [] = Ok (gives request.GetChar int_type NoMore)
+plain_builtin env up builtin.Free (x ∷ []) = and_then (and_then x.typed (scalar env x.at up)) (λ v. if is_integer v.ty then fault (BadType up) else Ok (NoResult (Requested request.Release None (one_of v.expression))))
+plain_builtin env up builtin.GetChar [] = Ok (gives env request.GetChar int NoMore)
 plain_builtin env up builtin.PutChar (x ∷ []) = asks_integer env up request.PutChar x
-plain_builtin env up builtin.Puts (x ∷ []) = asks_pointer env up request.Puts char_type x
-plain_builtin env up builtin.Lock (x ∷ []) = asks_pointer env up request.Lock mutex_type x
-plain_builtin env up builtin.Unlock (x ∷ []) = asks_pointer env up request.Unlock mutex_type x
+plain_builtin env up builtin.Puts (x ∷ []) = asks_pointer env up request.Puts char x
+plain_builtin env up builtin.Lock (x ∷ []) = asks_pointer env up request.Lock mutex x
+plain_builtin env up builtin.Unlock (x ∷ []) = asks_pointer env up request.Unlock mutex x
 plain_builtin env up builtin.Join (x ∷ []) = asks_integer env up request.Join x
-plain_builtin env up builtin.IsUpdating [] = Ok (gives request.IsUpdating int_type NoMore)
+plain_builtin env up builtin.IsUpdating [] = Ok (gives env request.IsUpdating int NoMore)
 plain_builtin env up builtin.Automigrate [] = Ok (NoResult (Requested request.Automigrate None NoMore))
 plain_builtin env up _ args = fault (BadType up)
 
@@ -168,11 +171,11 @@ argument a x = record { at = first_token a; typed = x }
 -- the typing of an expression
 abbrev mutual
   pub typing : Environment → Term → Checked Operand
-  typing env (Constant at n) = Ok (number n)
-  typing env (Character at b) = Ok (Valued int_type (Constant' (constant.Number (pos b)) int_type))
+  typing env (Constant at n) = Ok (number env n)
+  typing env (Character at b) = Ok (Valued int (number_value env int (pos b)))
   typing env (Text at bytes) = Ok (string env at)
   typing env (NullTerm at) = Ok Null
-  typing env (Eof at) = Ok (Valued int_type (Constant' (constant.Number (negsuc 0)) int_type))
+  typing env (Eof at) = Ok (Valued int (number_value env int (negsuc 0)))
   typing env (Named n) = named env n
   typing env (Called n args) = elim (local_named env.visible n.word) as (λ _. Checked Operand) [
     | (Some x) ↦ fault (BadType n.at)
@@ -189,7 +192,7 @@ abbrev mutual
   typing env (Element a i) = and_then (both (typing env a) (typing env i)) (λ x. element env (first_token a) (first_token i) x.0 x.1)
   typing env (Member a f) = and_then (typing env a) (λ x. member env (first_token a) x f)
   typing env (Pointed a f) = and_then (typing env a) (λ x. pointed env (first_token a) x f)
-  typing env (Stepped a op) = and_then (typing env a) (λ x. changed env (first_token a) true (step_operator op) x one)
+  typing env (Stepped a op) = and_then (typing env a) (λ x. changed env (first_token a) true (step_operator op) x (one env))
   typing env (Prefixed at op a) = and_then (typing env a) (λ x. unary env at (first_token a) op x)
   typing env (Converted at t a) = and_then (typing env a) (λ x. cast env at (first_token a) t (is_allocation a) x)
   typing env (OperatedTerm op a b) = and_then (both (typing env a) (typing env b)) (λ x. operator env (first_token a) (first_token b) op x.0 x.1)
@@ -205,7 +208,7 @@ abbrev mutual
 
   -- a built-in call at `up`, whose arguments are these, as values and as they stand
   pub builtin_call : Environment → ℕ → Builtin → List Argument → Terms → Checked Operand
-  builtin_call env up builtin.Malloc values (MoreTerms (SizeOf at t) Nothing) = allocated env up at t false one
+  builtin_call env up builtin.Malloc values (MoreTerms (SizeOf at t) Nothing) = allocated env up at t false (one env)
   builtin_call env up builtin.Malloc values (MoreTerms (OperatedTerm binary.Multiply e (SizeOf at t)) Nothing) =
       and_then (typing env e) (λ x. and_then (integer env (first_token e) up x) (λ v. allocated env up at t false v))
   builtin_call env up builtin.Malloc values (MoreTerms (OperatedTerm binary.Multiply (SizeOf at t) e) Nothing) =
@@ -216,7 +219,7 @@ abbrev mutual
       and_then (typing env e) (λ x. and_then (integer env (first_token e) up x) (λ v. allocated env up at t true v))
   builtin_call env up builtin.Printf values (MoreTerms (Text at bytes) args) = printed env up bytes (typing_all env args)
   builtin_call env up builtin.InitMutex values (MoreTerms p (MoreTerms (NullTerm at) Nothing)) =
-      asks_pointer env up request.InitMutex mutex_type (argument p (typing env p))
+      asks_pointer env up request.InitMutex mutex (argument p (typing env p))
   builtin_call env up builtin.Create values (MoreTerms (Named f) (MoreTerms e Nothing)) = created env up f (argument e (typing env e))
   builtin_call env up builtin.Update values (MoreTerms (Text at bytes) Nothing) = updated env up bytes
   builtin_call env up builtin.IsUpdatingFrom values (MoreTerms (Text at bytes) Nothing) = updating_from env up bytes

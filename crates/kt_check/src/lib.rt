@@ -2,6 +2,7 @@
 #![tactic(auto)]
 
 mod builtin;
+mod ctype;
 mod fault;
 
 pub use fault::CheckFault;
