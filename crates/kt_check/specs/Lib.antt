@@ -1,4 +1,5 @@
 pub mod Checked
+pub mod Judges
 pub mod Uses
 pub mod Types
 pub mod Environment

@@ -4,5 +4,6 @@
 mod builtin;
 mod ctype;
 mod fault;
+mod judged;
 
 pub use fault::CheckFault;
