@@ -129,3 +129,5 @@ judges-both v w (Err f) (Err g) s t (inr h) (inr k) =
       | inl e ↦ inl (memory-is _ e)
       | inr e ↦ inr (first-of (both s t) (with_faults fs gs) (earlier f g) (both-faulty s t fs gs is at) e)
     ]
+
+pub ruleset parts = (fails, follows, judges-follows, judges-both)

@@ -4,6 +4,7 @@ pub mod Uses
 pub mod Types
 pub mod Environment
 pub mod Operands
+pub mod Views
 pub mod Formats
 pub mod Rules
 pub mod Builtins
