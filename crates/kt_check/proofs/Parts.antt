@@ -1,5 +1,5 @@
 -- Answers that typing gives: of what follows a part, and of two parts.
-use Rattle.std.proofs.Common.{◌≡◌, ◌==◌, nat_lt, ◌&&◌, ◌||◌, true≢false,  ◌⊎◌, inl, inr, ℕ, Bool, true, false, List, [], ◌∷◌, ◌++◌, Result, Ok, Err, Option, None, Some, if◌then◌else◌, refl, sym, ap, ◌∙◌, arith, rules}
+use Rattle.std.proofs.Common.{◌≡◌, subst, ◌==◌, nat_lt, ◌&&◌, ◌||◌, true≢false,  ◌⊎◌, inl, inr, ℕ, Bool, true, false, List, [], ◌∷◌, ◌++◌, Result, Ok, Err, Option, None, Some, if◌then◌else◌, refl, sym, ap, ◌∙◌, arith, rules}
 use Rattle.std.proofs.lemmas.Bool.Decides.{nat_tests}
 use Rattle.kt_check.specs.declared.fault.CheckFault.{CheckFault}
 use Rattle.kt_check.specs.declared.fault.CheckFault.TheVariants.{NoMemory}
@@ -99,19 +99,26 @@ memory-right-by f g false i j = rw (i, j) j
 memory-right : (f g : CheckFault) → is_memory g ≡ true → is_memory (earlier f g) ≡ true
 memory-right f g j = memory-right-by f g _ refl j
 
+both-typed : {A B : Type 0} (s : Checked A) (t : Checked B) (x : A) (y : B) → s ≡ Ok x → t ≡ Ok y → both s t ≡ Ok (x, y)
+unfolding both
+both-typed s t x y i j = rw (i, j) refl
+
 second-faulty : {A B : Type 0} (s : Checked A) (t : Checked B) (x : A) (gs : Faults) → s ≡ Ok x → t ≡ Err gs → both s t ≡ Err gs
+unfolding both
 second-faulty s t x gs i j = rw (i, j) refl
 
 first-faulty : {A B : Type 0} (s : Checked A) (t : Checked B) (fs : Faults) (y : B) → s ≡ Err fs → t ≡ Ok y → both s t ≡ Err fs
+unfolding both
 first-faulty s t fs y i j = rw (i, j) refl
 
 both-faulty : {A B : Type 0} (s : Checked A) (t : Checked B) (fs gs : Faults) → s ≡ Err fs → t ≡ Err gs → both s t ≡ Err (with_faults fs gs)
+unfolding both
 both-faulty s t fs gs i j = rw (i, j) refl
 
 -- both parts are judged as they are one by one
 pub judges-both : {A B X Y : Type 0} (v : X → A) (w : Y → B) (a : Result X CheckFault) (b : Result Y CheckFault) (s : Checked A) (t : Checked B)
     → Judges v a s → Judges w b t → Judges (λ x. (v x.0, w x.1)) (both_of a b) (both s t)
-judges-both v w (Ok x) (Ok y) s t h k = rw (h, k) refl
+judges-both v w (Ok x) (Ok y) s t h k = both-typed s t (v x) (w y) h k
 judges-both v w (Ok x) (Err g) s t h (inl k) = inl k
 judges-both v w (Ok x) (Err g) s t h (inr k) =
     let (gs, is, l) = carries t g k in
@@ -131,3 +138,9 @@ judges-both v w (Err f) (Err g) s t (inr h) (inr k) =
     ]
 
 pub ruleset parts = (fails, follows, judges-follows, judges-both)
+
+-- the answer of a call that judges both
+pub judges-pair : {A B X Y : Type 0} (v : X → A) (w : Y → B) (a : Result X CheckFault) (b : Result Y CheckFault) (r : Result (X × Y) CheckFault) (s : Checked A) (t : Checked B)
+    → r ≡ both_of a b → Judges v a s → Judges w b t → Judges (λ x. (v x.0, w x.1)) r (both s t)
+judges-pair v w a b r s t e h k = subst (λ q. Judges (λ x. (v x.0, w x.1)) q (both s t)) (sym e) (judges-both v w a b s t h k)
+

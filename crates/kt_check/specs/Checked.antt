@@ -25,7 +25,7 @@ and_then (Ok x) f = f x
 and_then (Err faults) f = Err faults
 
 -- two parts that are judged both
-abbrev pub both : {A B : Type 0} → Checked A → Checked B → Checked (A × B)
+unfoldable pub both : {A B : Type 0} → Checked A → Checked B → Checked (A × B)
 both (Ok x) (Ok y) = Ok (x, y)
 both (Ok x) (Err g) = Err g
 both (Err f) (Ok y) = Err f

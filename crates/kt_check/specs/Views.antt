@@ -15,9 +15,11 @@ use Rattle.kt_check.specs.declared.info.Signature.{Signature}
 use Rattle.kt_check.specs.declared.info.Visible.{Visible as VisibleCode}
 use Rattle.kt_check.specs.declared.info.Outer.{Outer as OuterCode}
 use Rattle.kt_check.specs.declared.info.Outer.TheVariants as outer
+use Rattle.kt_check.specs.declared.arithmetic.Combined.{Combined as CombinedCode}
 use Rattle.kt_check.specs.Types.{place_in}
 use Rattle.kt_check.specs.Environment.{Environment, FieldOf, Struct, Found, Declared, Outer, Global, Function, Visible}
 use Rattle.kt_check.specs.Operands.{Operand, Valued, Zero, Null, LocalPlace, CellPlace, ArrayPlace, WholePlace, NoResult, Value, value_of_type}
+use Rattle.kt_check.specs.Rules.{Combined}
 
 -- ---- operands
 
@@ -33,6 +35,12 @@ operand_of (code.NoResult e) = NoResult (expression_of e)
 
 abbrev pub value_of : ValueCode → Value
 value_of v = value_of_type v.ty (expression_of v.expression)
+
+abbrev pub values_of : ValueCode × ValueCode → Value × Value
+values_of v = (value_of v.0, value_of v.1)
+
+abbrev pub combined_of : CombinedCode → Combined
+combined_of c = record { operation = c.operation; own = c.own }
 
 abbrev pub expressions_of : List Expression → Expressions
 expressions_of [] = NoMore

@@ -1,6 +1,7 @@
 //! The typing of C files.
 #![tactic(auto)]
 
+mod arithmetic;
 mod builtin;
 mod ctype;
 mod environment;
@@ -9,6 +10,8 @@ mod info;
 mod judged;
 mod node;
 mod operand;
+mod pair;
+mod place;
 mod types;
 
 pub use fault::CheckFault;

@@ -1,12 +1,13 @@
 //! What an expression is to the expression around it, and which values and conversions it allows
 //! (ISO/IEC 9899:2011, 6.3).
 
-ghost use Rattle.std.specs.Prelude.{◌≡◌, ℕ, pos, map, IfOk, [], ◌∷◌, Some, None};
+ghost use Rattle.std.specs.Prelude.{◌≡◌, ℕ, pos, map, IfOk, Ok};
 ghost use Rattle.kt_tree.specs.Tree.{expression_of};
 ghost use Rattle.kt_check.specs.Judges.{Judges};
 ghost use Rattle.kt_check.specs.Views.{environment_of, operand_of, value_of};
-ghost use Rattle.kt_check.specs.Operands.{number_value, zero, null_of, load, value, scalar, tested, integer, pointer, converted_to, convert_value, convert_null, convert};
-ghost use Rattle.kt_check.specs.Types.{is_integer, is_pointer};
+ghost use Rattle.kt_check.specs.Checked.{and_then};
+ghost use Rattle.kt_check.specs.Operands.{Zero, value_of_type, number_value, zero, null_of, load, value, scalar, tested, integer, pointer, converted_to, convert_value, convert_null, convert};
+ghost use Rattle.kt_check.specs.Types.{char, int, pointer_to, is_integer, is_pointer};
 
 use crate::ctype::CType;
 use crate::environment::Environment;
@@ -62,6 +63,54 @@ pub(crate) fn null_of(env: &Environment<'_>, t: CType) -> Expr
     Expr::Constant(Constant::Null, env.place(t))
 }
 
+/// Null, of a pointer type.
+pub(crate) fn null_value(env: &Environment<'_>, ty: CType) -> Value
+    ensures { value_of result ≡ value_of_type ty (null_of (environment_of env.now) ty) }
+{
+    let expression = null_of(env, ty);
+    Value { ty, expression }
+}
+
+/// Null, as a condition takes it.
+fn null_text(env: &Environment<'_>) -> Value
+    ensures { value_of result ≡ value_of_type (pointer_to char) (null_of (environment_of env.now) (pointer_to char)) }
+{
+    null_value(env, CType::text())
+}
+
+/// Null, and the literal `0`, as a value of a pointer type.
+fn convert_null(env: &Environment<'_>, t: CType, up: u32) -> Result<Expr, CheckFault>
+    ensures { Judges expression_of result (convert_null (environment_of env.now) t up) }
+{
+    if t.is_pointer() {
+        Ok(null_of(env, t))
+    } else {
+        Err(CheckFault::BadType { at: up })
+    }
+}
+
+/// The literal `0`, as a value of a type.
+fn convert_zero(env: &Environment<'_>, t: CType, up: u32) -> Result<Expr, CheckFault>
+    ensures { Judges expression_of result (convert (environment_of env.now) t up up Zero) }
+{
+    if t.is_integer() {
+        zero_value(env).converted_to(env, t)
+    } else {
+        convert_null(env, t, up)
+    }
+}
+
+/// The literal `0`, an `int`.
+fn zero_value(env: &Environment<'_>) -> Value
+    ensures { value_of result ≡ value_of_type int (zero (environment_of env.now)) }
+{
+    let expression = zero(env);
+    Value {
+        ty: CType::int(),
+        expression,
+    }
+}
+
 /// The value of the cell of a type at a pointer.
 fn load(env: &Environment<'_>, t: CType, pointer: Expr) -> Result<Expr, CheckFault>
     ensures { Judges expression_of result (Ok (load (environment_of env.now) t (expression_of pointer))) }
@@ -115,10 +164,7 @@ impl Operand {
         ensures { Judges value_of result (scalar (environment_of env.now) own up (operand_of self)) }
     {
         match self {
-            Operand::Null => Ok(Value {
-                ty: CType::text(),
-                expression: null_of(env, CType::text()),
-            }),
+            Operand::Null => Ok(null_text(env)),
             Operand::Valued(_, _) => self.value(env, own, up),
             Operand::Zero => self.value(env, own, up),
             Operand::LocalPlace(_, _) => self.value(env, own, up),
@@ -127,6 +173,44 @@ impl Operand {
             Operand::WholePlace(_, _) => self.value(env, own, up),
             Operand::NoResult(_) => self.value(env, own, up),
         }
+    }
+
+    /// What the operand at `own` is as a value of a type, as assignment, initialisation, arguments and `return` convert it
+    /// (6.5.16.1); `up` is the place of the fault where it doesn't convert.
+    pub(crate) fn convert(
+        self,
+        env: &Environment<'_>,
+        t: CType,
+        own: u32,
+        up: u32,
+    ) -> Result<Expr, CheckFault>
+        ensures { Judges expression_of result (convert (environment_of env.now) t own up (operand_of self)) }
+    {
+        match self {
+            Operand::Null => convert_null(env, t, up),
+            Operand::Zero => convert_zero(env, t, up),
+            Operand::Valued(_, _) => self.converted(env, t, own, up),
+            Operand::LocalPlace(_, _) => self.converted(env, t, own, up),
+            Operand::CellPlace(_, _) => self.converted(env, t, own, up),
+            Operand::ArrayPlace(_, _) => self.converted(env, t, own, up),
+            Operand::WholePlace(_, _) => self.converted(env, t, own, up),
+            Operand::NoResult(_) => self.converted(env, t, own, up),
+        }
+    }
+
+    /// The operand's value, converted.
+    #[tactic(auto, using(crate::proofs::Parts::parts))]
+    fn converted(
+        self,
+        env: &Environment<'_>,
+        t: CType,
+        own: u32,
+        up: u32,
+    ) -> Result<Expr, CheckFault>
+        ensures { Judges expression_of result (and_then (value (environment_of env.now) own up (operand_of self)) (convert_value (environment_of env.now) t up)) }
+    {
+        let value = self.value(env, own, up)?;
+        value.convert(env, t, up)
     }
 
     /// The value of an integer.

@@ -1,4 +1,4 @@
-use Rattle.std.proofs.Common.{sym, arith}
+use Rattle.std.proofs.Common.{sym}
 use Rattle.std.proofs.lemmas.Bool.{false≢true}
 use Rattle.kt_check.proofs.Lookups.{struct-found, struct-none}
 use Rattle.kt_check.proofs.environment.Environment.struct_numbered.Goals as goal
