@@ -1,5 +1,5 @@
 -- What the code's environments, operands and values stand for.
-use Rattle.std.specs.Prelude.{ℕ, List, [], ◌∷◌, ◌++◌, map, Option}
+use Rattle.std.specs.Prelude.{ℕ, Bool, true, false, List, [], ◌∷◌, ◌++◌, map, Option}
 use Rattle.std.specs.Option.{option_map}
 use Rattle.std.specs.Map.{lookup}
 use Rattle.std.specs.Str.{bytes_eq}
@@ -86,3 +86,15 @@ environment_of e = record {
   noted = e.noted;
   visible = map visible_of (latest_first e.visible.now)
 }
+
+-- ---- tests
+
+abbrev pub is_null : Operand → Bool
+is_null Null = true
+is_null (Valued t e) = false
+is_null Zero = false
+is_null (LocalPlace x t) = false
+is_null (CellPlace t p) = false
+is_null (ArrayPlace t p) = false
+is_null (WholePlace t p) = false
+is_null (NoResult e) = false

@@ -3,6 +3,8 @@
 
 mod arithmetic;
 mod builtin;
+mod combine;
+mod compare;
 mod ctype;
 mod environment;
 mod fault;

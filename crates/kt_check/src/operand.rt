@@ -120,6 +120,9 @@ fn load(env: &Environment<'_>, t: CType, pointer: Expr) -> Result<Expr, CheckFau
 }
 
 impl Operand {
+    /// Lets the operand go.
+    pub(crate) fn let_go(self) {}
+
     /// The value of an operand that stands at `own` in an expression that begins at `up` (6.3.2.1). An array is a pointer
     /// to its first element; a struct or mutex has no value, nor has a call without a result.
     pub(crate) fn value(
@@ -243,6 +246,9 @@ impl Operand {
 }
 
 impl Value {
+    /// Lets the value go.
+    pub(crate) fn let_go(self) {}
+
     /// The value, where it is an integer.
     fn integer(self, up: u32) -> Result<Value, CheckFault>
         ensures { Judges value_of result (tested is_integer up (value_of self)) }
