@@ -120,7 +120,7 @@ moved env at t (Some e) op =
     and_then (found (moving_of op (env.place e)) (BadType at)) (λ m. if is_complete env e then Ok (record { operation = m; own = t }) else fault (Incomplete at))
 
 -- the operation of two integers, or of a pointer and an integer
-abbrev pub combined : Environment → ℕ → BinaryOperator → CType → CType → Checked Combined
+unfoldable pub combined : Environment → ℕ → BinaryOperator → CType → CType → Checked Combined
 combined env at op a b =
     if is_integer a && is_integer b
     then and_then (found (arithmetic_of op) (BadType at)) (λ o. Ok (record { operation = o; own = common a b }))
@@ -157,7 +157,7 @@ compared env at op a b =
     if comparable a.ty b.ty then Ok (Valued int (operated env op int a.expression b.expression)) else fault (BadType at)
 
 -- `==` and `!=` compare null with a pointer too, and with null
-abbrev pub with_null : Environment → ℕ → ℕ → Operand → Operand → Checked (Value × Value)
+unfoldable pub with_null : Environment → ℕ → ℕ → Operand → Operand → Checked (Value × Value)
 with_null env at right Null Null = both (scalar env at at Null) (scalar env right at Null)
 with_null env at right Null b = and_then (pointer env right at b) (λ v. Ok (value_of_type v.ty (null_of env v.ty), v))
 with_null env at right a Null = and_then (pointer env at at a) (λ v. Ok (v, value_of_type v.ty (null_of env v.ty)))
@@ -166,6 +166,10 @@ with_null env at right a b = both (value env at at a) (value env right at b)
 abbrev pub equal : Environment → ℕ → ℕ → Operation → Operand → Operand → Checked Operand
 equal env at right op a b = and_then (with_null env at right a b) (λ x. compared env at op x.0 x.1)
 
+-- an operator of two values that is no `&&`, `||`, `==` or `!=`
+abbrev pub of_values : Environment → ℕ → BinaryOperator → Value → Value → Checked Operand
+of_values env at op a b = elim (comparison_of op) as (λ _. Checked Operand) [ None ↦ sum_of env at op a b | (Some o) ↦ compared env at o a b ]
+
 -- a binary operator
 abbrev pub operator : Environment → ℕ → ℕ → BinaryOperator → Operand → Operand → Checked Operand
 operator env at right binary.And a b = and_then (both (scalar env at at a) (scalar env right at b)) (λ x. Ok (Valued int (Both x.0.expression x.1.expression)))
@@ -173,8 +177,7 @@ operator env at right binary.Or a b = and_then (both (scalar env at at a) (scala
 operator env at right binary.Equal a b = equal env at right operation.Equal a b
 operator env at right binary.NotEqual a b = equal env at right operation.NotEqual a b
 operator env at right op a b =
-    and_then (both (value env at at a) (value env right at b))
-    (λ x. elim (comparison_of op) as (λ _. Checked Operand) [ None ↦ sum_of env at op x.0 x.1 | (Some o) ↦ compared env at o x.0 x.1 ])
+    and_then (both (value env at at a) (value env right at b)) (λ x. of_values env at op x.0 x.1)
 
 -- `c ? a : b`, whose arms begin at `one` and `other`
 abbrev pub arms : Value → Value → Option CType
@@ -183,16 +186,20 @@ arms a b =
     else (if is_pointer a.ty && same_ctype a.ty b.ty then Some a.ty else None)
 
 -- one arm may be null, which is then of the other's type
-abbrev pub arm_values : Environment → ℕ → ℕ → ℕ → Operand → Operand → Checked (Value × Value)
+unfoldable pub arm_values : Environment → ℕ → ℕ → ℕ → Operand → Operand → Checked (Value × Value)
 arm_values env at one other Null Null = both (scalar env one at Null) (scalar env other at Null)
 arm_values env at one other Null b = and_then (pointer env other at b) (λ v. Ok (value_of_type v.ty (null_of env v.ty), v))
 arm_values env at one other a Null = and_then (pointer env one at a) (λ v. Ok (v, value_of_type v.ty (null_of env v.ty)))
 arm_values env at one other a b = both (value env one at a) (value env other at b)
 
+-- a choice between two values of one type
+abbrev pub chosen_of : Environment → ℕ → Value × (Value × Value) → Checked Operand
+chosen_of env at x =
+    and_then (found (arms x.1.0 x.1.1) (BadType at)) (λ t. Ok (Valued t (Chosen x.0.expression (env.place t) x.1.0.expression x.1.1.expression)))
+
 abbrev pub choice : Environment → ℕ → ℕ → ℕ → Operand → Operand → Operand → Checked Operand
 choice env at one other c a b =
-    and_then (both (scalar env at at c) (arm_values env at one other a b))
-    (λ x. and_then (found (arms x.1.0 x.1.1) (BadType at)) (λ t. Ok (Valued t (Chosen x.0.expression (env.place t) x.1.0.expression x.1.1.expression))))
+    and_then (both (scalar env at at c) (arm_values env at one other a b)) (chosen_of env at)
 
 -- ---- assignment and the unary operators
 

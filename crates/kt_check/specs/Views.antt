@@ -39,6 +39,9 @@ value_of v = value_of_type v.ty (expression_of v.expression)
 abbrev pub values_of : ValueCode × ValueCode → Value × Value
 values_of v = (value_of v.0, value_of v.1)
 
+abbrev pub choice_of : ValueCode × (ValueCode × ValueCode) → Value × (Value × Value)
+choice_of v = (value_of v.0, values_of v.1)
+
 abbrev pub combined_of : CombinedCode → Combined
 combined_of c = record { operation = c.operation; own = c.own }
 

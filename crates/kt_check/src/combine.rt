@@ -106,6 +106,7 @@ fn joined(
 }
 
 /// The operation of two integers, or of a pointer and an integer.
+#[tactic(auto, unfolding(crate::specs::Rules::combined))]
 pub(crate) fn combined(
     env: &Environment<'_>,
     at: u32,

@@ -2,7 +2,9 @@
 #![tactic(auto)]
 
 mod arithmetic;
+mod assign;
 mod builtin;
+mod choice;
 mod combine;
 mod compare;
 mod ctype;
@@ -15,5 +17,6 @@ mod operand;
 mod pair;
 mod place;
 mod types;
+mod unary;
 
 pub use fault::CheckFault;
