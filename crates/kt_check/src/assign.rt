@@ -198,8 +198,10 @@ fn assign_local(
 ) -> Result<Operand, CheckFault>
     ensures { Judges operand_of result (assigned (environment_of env.now) at right (LocalPlace place.0 place.1) (operand_of e)) }
 {
-    let value = e.convert(env, place.1, right, at)?;
-    local_taken(env, false, place.0, place.1, value)
+    match e.convert(env, place.1, right, at) {
+        Ok(value) => local_taken(env, false, place.0, place.1, value),
+        Err(fault) => Err(fault),
+    }
 }
 
 /// A value that the cell of the type of `p` takes.
