@@ -1,10 +1,9 @@
 -- Look-ups in tables and maps against those in lists.
-use Rattle.std.proofs.Common.{if◌then◌else◌, zero, suc, ◌≡◌, ◌==◌, nat_eq, ℕ, ◌+◌, ◌-◌, ◌≤◌, ◌<◌, Bool, true, false, cond, List, [], ◌∷◌, ◌++◌, length, map, take, get_or, slice_get, subst, Option, None, Some, refl, sym, ap, ◌∙◌, arith, rules}
+use Rattle.std.proofs.Common.{if◌then◌else◌, zero, suc, ◌≡◌, ◌==◌, ℕ, ◌+◌, ◌-◌, ◌≤◌, ◌<◌, Bool, true, false, cond, List, [], ◌∷◌, ◌++◌, length, map, take, get_or, slice_get, subst, Option, None, Some, refl, sym, ap, ◌∙◌, arith, rules}
 use Rattle.std.specs.List.{position, position_from, IsDistinct, AllByRecursion}
 use Rattle.std.specs.Map.{lookup, keys_of}
 use Rattle.std.specs.Str.{bytes_eq}
 use Rattle.std.specs.Global.{Vec}
-use Rattle.std.proofs.lemmas.Bool.{false≢true}
 use Rattle.std.proofs.lemmas.Option.{none-some, get_or_from_slice_get}
 use Rattle.std.proofs.lemmas.List.Quantifiers.{position-Some}
 use Rattle.std.specs.Option.{option_map}
@@ -19,9 +18,9 @@ use Rattle.kt_types.specs.contracts.kinds.TyPartialEq.TheImpl.{eq-value}
 use Rattle.kt_check.specs.declared.info.StructInfo.{StructInfo}
 use Rattle.kt_check.specs.declared.info.FieldInfo.{FieldInfo}
 use Rattle.kt_check.specs.declared.info.Visible.{Visible}
-use Rattle.kt_check.specs.Types.{same_type, place_of_type, starred_place}
+use Rattle.kt_check.specs.Types.{same_type, place_of_type}
 use Rattle.kt_check.specs.Environment.{FieldOf, Found, field_from, local_named, struct_numbered, Struct}
-use Rattle.kt_check.specs.Views.{fields_of, found_as, latest_first, visible_of, struct_of}
+use Rattle.kt_check.specs.Views.{latest_first, visible_of, struct_of}
 
 -- ---- types
 

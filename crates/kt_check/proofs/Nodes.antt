@@ -1,5 +1,5 @@
 -- What a typed expression is as plain data, made of its parts.
-use Rattle.std.proofs.Common.{◌≡◌, ℕ, Bool, Option, List, [], ◌∷◌, map, refl, ap, ◌∙◌}
+use Rattle.std.proofs.Common.{◌≡◌, ℕ, Bool, Option, List, map, refl, ap, ◌∙◌}
 use denote.Hole.Carrier.{hidden}
 use mathlib.Core.Former.{Count}
 use Rattle.kt_tree.specs.declared.expr.Operation.{Operation as Op}
@@ -7,7 +7,7 @@ use Rattle.kt_tree.specs.declared.expr.Request.{Request as Req}
 use Rattle.kt_tree.specs.declared.expr.Expr.TheBlock.{hidden-the_row-Expr-0}
 use Rattle.kt_tree.specs.declared.expr.Expr.{Expr, Operation, Operation', Request, Request', Call, Call', Row_of-Expr, end_of-Expr, more_of-Expr, items-the_row-Expr, items_hidden-the_row-Expr-1}
 use Rattle.kt_tree.specs.declared.expr.Expr.TheVariants as expr
-use Rattle.kt_tree.specs.Tree.{LocalSet, LocalSwapped, Operated, Requested, Modified, Both, Either, Chosen, Called, NoMore, More, expression_of, expressions_of_row}
+use Rattle.kt_tree.specs.Tree.{LocalSet, LocalSwapped, Operated, Requested, Modified, Both, Either, Chosen, Called, More, expression_of, expressions_of_row}
 use Rattle.kt_check.specs.Views.{expressions_of}
 
 pub local_set-is : (x : ℕ) (a : Expr) → expression_of (expr.SetLocal x a) ≡ LocalSet x (expression_of a)

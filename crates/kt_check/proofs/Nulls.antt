@@ -1,9 +1,9 @@
 -- Comparisons and arms with null, by which of the two is null.
-use Rattle.std.proofs.Common.{◌≡◌, ℕ, Bool, true, false, Ok, refl, rules}
+use Rattle.std.proofs.Common.{◌≡◌, ℕ, true, false, Ok, rules}
 use Rattle.kt_check.specs.Checked.{and_then, both}
 use Rattle.kt_check.specs.Environment.{Environment}
 use Rattle.kt_check.specs.Views.{is_null}
-use Rattle.kt_check.specs.Operands.{Operand, Null, value_of_type, null_of, value, scalar, pointer}
+use Rattle.kt_check.specs.Operands.{Operand, value_of_type, null_of, value, scalar, pointer}
 use Rattle.kt_check.specs.Rules.{with_null, arm_values}
 
 module _ (env : Environment) (at right : ℕ) (a b : Operand) where
@@ -41,4 +41,5 @@ module _ (env : Environment) (at one other : ℕ) (a b : Operand) where
   arms-neither e f = search rules
 
 pub ruleset null_arms = (arms-both, arms-first, arms-second, arms-neither)
+
 pub ruleset nulls = (with-both, with-first, with-second, with-neither)

@@ -1,9 +1,9 @@
 -- Answers that typing gives: of what follows a part, and of two parts.
-use Rattle.std.proofs.Common.{◌≡◌, subst, ◌==◌, nat_lt, ◌&&◌, ◌||◌, true≢false,  ◌⊎◌, inl, inr, ℕ, Bool, true, false, List, [], ◌∷◌, ◌++◌, Result, Ok, Err, Option, None, Some, if◌then◌else◌, refl, sym, ap, ◌∙◌, arith, rules}
+use Rattle.std.proofs.Common.{◌≡◌, subst, ◌==◌, nat_lt, ◌&&◌, ◌||◌, true≢false, ◌⊎◌, inl, inr, ℕ, Bool, true, false, List, [], ◌∷◌, ◌++◌, Result, Ok, Err, if◌then◌else◌, refl, sym, ap, ◌∙◌, arith, rules}
 use Rattle.std.proofs.lemmas.Bool.Decides.{nat_tests}
 use Rattle.kt_check.specs.declared.fault.CheckFault.{CheckFault}
 use Rattle.kt_check.specs.declared.fault.CheckFault.TheVariants.{NoMemory}
-use Rattle.kt_check.specs.Checked.{Checked, Faults, and_then, both, found, first, fault, least, is_before, with_faults, place_of, rank_of}
+use Rattle.kt_check.specs.Checked.{Checked, Faults, and_then, both, first, fault, least, is_before, with_faults, place_of, rank_of}
 use Rattle.kt_check.specs.Judges.{Fails, Judges, is_memory, earlier, both_of}
 
 -- ---- what follows a part
@@ -143,4 +143,3 @@ pub ruleset parts = (fails, follows, judges-follows, judges-both)
 pub judges-pair : {A B X Y : Type 0} (v : X → A) (w : Y → B) (a : Result X CheckFault) (b : Result Y CheckFault) (r : Result (X × Y) CheckFault) (s : Checked A) (t : Checked B)
     → r ≡ both_of a b → Judges v a s → Judges w b t → Judges (λ x. (v x.0, w x.1)) r (both s t)
 judges-pair v w a b r s t e h k = subst (λ q. Judges (λ x. (v x.0, w x.1)) q (both s t)) (sym e) (judges-both v w a b s t h k)
-

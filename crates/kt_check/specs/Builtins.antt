@@ -1,7 +1,6 @@
 -- The built-in calls: which there are, and what each takes and gives. A call's faults are at its name.
-use Rattle.std.specs.Prelude.{ℕ, pos, ◌==◌, ◌&&◌, ◌||◌, not, Bool, true, false, List, [], ◌∷◌, ◌++◌, codes, map, Ok, Err, Option, Some, None, if◌then◌else◌}
-use Rattle.std.specs.List.{list_all, position_from}
-use Rattle.std.specs.Option.{option_map}
+use Rattle.std.specs.Prelude.{ℕ, List, [], ◌∷◌, ◌++◌, codes, Ok, Option, Some, None, if◌then◌else◌}
+use Rattle.std.specs.List.{position_from}
 use Rattle.std.specs.Str.{bytes_eq}
 use Rattle.kt_grammar.specs.declared.tree.Name.{Name}
 use Rattle.kt_tree.specs.declared.expr.Part.{Part}
@@ -10,14 +9,14 @@ use Rattle.kt_tree.specs.declared.expr.Request.{Request}
 use Rattle.kt_tree.specs.declared.expr.Request.TheVariants as request
 use Rattle.kt_tree.specs.Tree.{Expression, Requested, Expressions, NoMore, More}
 use Rattle.kt_check.specs.declared.ctype.CType.{CType}
-use Rattle.kt_check.specs.Types.{char, int, long, mutex, pointer_to, pointee, is_integer, same_ctype}
+use Rattle.kt_check.specs.Types.{char, int, long, pointer_to, same_ctype}
 use Rattle.kt_tree.specs.Names.{is_point_name}
-use Rattle.kt_check.specs.declared.fault.CheckFault.TheVariants.{Unknown, BadType, Entry, Note}
+use Rattle.kt_check.specs.declared.fault.CheckFault.TheVariants.{BadType, Entry, Note}
 use Rattle.kt_check.specs.declared.builtin.Builtin.{Builtin}
 use Rattle.kt_check.specs.declared.builtin.Builtin.TheVariants as builtin
-use Rattle.kt_check.specs.Checked.{Checked, fault, and_then, both, all, found}
-use Rattle.kt_check.specs.Environment.{Environment, Outer, Global, Function, Declared, local_named}
-use Rattle.kt_check.specs.Operands.{Operand, Valued, NoResult, Value, value, scalar, integer, pointer, convert}
+use Rattle.kt_check.specs.Checked.{Checked, fault, and_then, both, found}
+use Rattle.kt_check.specs.Environment.{Environment, Outer, Function, local_named}
+use Rattle.kt_check.specs.Operands.{Operand, Valued, NoResult, Value, value, integer, pointer, convert}
 use Rattle.kt_check.specs.Formats.{Conversion, Plain, Decimal, LongDecimal, Byte, Text, format_of}
 
 -- the built-in call of a name

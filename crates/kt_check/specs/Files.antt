@@ -1,5 +1,5 @@
 -- The typing of files: each external declaration in its turn, the version that comes of all, or the first fault.
-use Rattle.std.specs.Prelude.{◌≡◌, ℕ, zero, suc, ◌+◌, ◌-◌, ◌*◌, ◌==◌, ◌&&◌, ◌||◌, not, nat_le, nat_lt, Bool, true, false, List, [], ◌∷◌, ◌++◌, map, length, codes, Result, Ok, Err, Option, Some, None, if◌then◌else◌, ℤ, pos, negsuc, option_and_then, slice_get}
+use Rattle.std.specs.Prelude.{ℕ, zero, suc, ◌+◌, ◌*◌, ◌==◌, ◌&&◌, ◌||◌, not, nat_le, Bool, true, false, List, [], ◌∷◌, ◌++◌, map, length, codes, Result, Ok, Option, Some, None, if◌then◌else◌, ℤ, pos, negsuc, option_and_then}
 use Rattle.std.specs.Option.{is_some, option_map}
 use Rattle.std.specs.List.{position_from}
 use Rattle.std.specs.Str.{bytes_eq}
@@ -23,7 +23,7 @@ use Rattle.kt_types.specs.declared.kinds.Ty.TheVariants as ty
 use Rattle.kt_types.specs.declared.kinds.View.{View}
 use Rattle.kt_types.specs.declared.kinds.View.TheVariants as view
 use Rattle.kt_types.specs.declared.kinds.FieldDecl.{FieldDecl}
-use Rattle.kt_types.specs.Table.{Table, Definition}
+use Rattle.kt_types.specs.Table.{Definition}
 use Rattle.kt_check.specs.declared.ctype.CType.{CType}
 use Rattle.kt_tree.specs.declared.global.GlobalDecl.{GlobalDecl}
 use Rattle.kt_tree.specs.declared.global.Init.{Init}
@@ -32,16 +32,16 @@ use Rattle.kt_tree.specs.Kinds.{fits_in}
 use Rattle.kt_tree.specs.Tree.{Function as TypedFunction, Statement, Compound}
 use Rattle.kt_tree.specs.Version.{Program}
 use Rattle.kt_check.specs.declared.fault.CheckFault.{CheckFault}
-use Rattle.kt_check.specs.declared.fault.CheckFault.TheVariants.{Unknown, Twice, BadType, Incomplete, TooBig, Note, NoMain}
+use Rattle.kt_check.specs.declared.fault.CheckFault.TheVariants.{Twice, BadType, TooBig, NoMain}
 use Rattle.kt_check.specs.Checked.{Checked, fault, and_then, both, holds, first}
-use Rattle.kt_check.specs.Environment.{Environment, Visible, Outer, Global, Function, Declared, FieldOf, Struct, struct_numbered, cells_of}
+use Rattle.kt_check.specs.Environment.{Environment, Outer, Global, FieldOf, Struct, struct_numbered, cells_of}
 use Rattle.kt_check.specs.Builtins.{builtin_named}
-use Rattle.kt_check.specs.Types.{char, int, same_ctype, is_integer, is_scalar, ctype, place_in, place_of_type, number_of_struct}
+use Rattle.kt_check.specs.Types.{int, same_ctype, is_scalar, ctype, place_in, place_of_type, number_of_struct}
 use Rattle.kt_check.specs.declared.ctype.Root.{Root}
 use Rattle.kt_check.specs.declared.ctype.Root.TheVariants as root
 use Rattle.kt_check.specs.Uses.{stars_of, result_stars}
-use Rattle.kt_check.specs.Statements.{Body, State, declarator_place, by_value, held, extent_outside, pointer_outside, is_count, new_name, declared, contains, entries}
-use Rattle.kt_check.specs.Tables.{struct_names, types_of, declared_type, result_type, parameter_types, outer_named, functions_of, globals_of, OuterGlobal, global_name, locals_of, written_of, literals_in, literal_places, update_names, point_names, plain_view, view_of, extent_of}
+use Rattle.kt_check.specs.Statements.{Body, State, declarator_place, by_value, held, extent_outside, pointer_outside, new_name, declared, contains, entries}
+use Rattle.kt_check.specs.Tables.{struct_names, types_of, declared_type, result_type, parameter_types, outer_named, locals_of, written_of, literals_in, literal_places, update_names, point_names, plain_view, view_of, extent_of}
 
 -- what a file's syntax gives once for all: its tables
 pub record Frame : Type 0 where
@@ -60,7 +60,7 @@ frame_of xs = record {
   types = types_of xs;
   outer = outer_named (struct_names xs) xs;
   literals = literal_places (written_of xs);
-  points = point_names xs
+  points = point_names xs;
 }
 
 -- what was declared so far
@@ -86,7 +86,7 @@ outside f s = record {
   points = f.points;
   locals = [];
   noted = false;
-  visible = []
+  visible = [];
 }
 
 -- ---- structs
@@ -102,9 +102,10 @@ count_of (Some n) = n.value
 
 -- the place of a field's type: that of its declarator, or an array of it
 abbrev pub field_place : Frame → Base → Declarator → ℕ
-field_place f b d = elim d.count as (λ _. ℕ)
-    [ None ↦ place_in f.types (declared_type f.names b d.pointer)
-    | (Some n) ↦ place_of_type f.types (ty.Array (place_in f.types (declared_type f.names b d.pointer)) n.value) ]
+field_place f b d = elim d.count as (λ _. ℕ) [
+  | None ↦ place_in f.types (declared_type f.names b d.pointer)
+  | (Some n) ↦ place_of_type f.types (ty.Array (place_in f.types (declared_type f.names b d.pointer)) n.value)
+]
 
 -- a field with the base of its declaration
 pub record OneField : Type 0 where
@@ -259,13 +260,13 @@ global f s b g =
       count = count_of g.declarator.count;
       array = is_some g.declarator.count;
       view = view_of f.outer b g.declarator.pointer;
-      init = x.1.1.1.1.1
+      init = x.1.1.1.1.1;
     }))
 
 abbrev pub with_global : Frame → Sofar → Base → GlobalDeclarator → GlobalDecl → Sofar
 with_global f s b g d = record s {
   globals = s.globals ++ d ∷ [];
-  cells = s.cells + d.count * cells_of (outside f s) (declared_type f.names b g.declarator.pointer)
+  cells = s.cells + d.count * cells_of (outside f s) (declared_type f.names b g.declarator.pointer);
 }
 
 abbrev pub globals : Frame → Sofar → Base → List GlobalDeclarator → Checked Sofar
@@ -324,7 +325,7 @@ abbrev pub body_of : Frame → Sofar → Routine → Bool → Body
 body_of f s r noted = record {
   environment = record (outside f s) { locals = map (λ l. l.ty) (locals_of f.names r); noted = noted };
   result = result_type f.names r;
-  names = map (λ l. l.name) (locals_of f.names r)
+  names = map (λ l. l.name) (locals_of f.names r);
 }
 
 abbrev pub is_noted : Option Body' → Bool
@@ -338,7 +339,7 @@ typed_function f r noted body = record {
   params = length r.parameters;
   noted = noted;
   locals = map (λ l. record { name = l.name; ty = place_in f.types l.ty; view = view_of f.outer l.base l.pointer }) (locals_of f.names r);
-  body = body
+  body = body;
 }
 
 -- the body of a function, behind its parameters
@@ -355,14 +356,14 @@ function f s r =
     (both (holds (not (has_global s r.name.word)) (Twice r.name.at))
     (both (agrees f.names r s.routines) (parameters (body_of f s r (is_noted r.body)) no_state r.parameters)))))
     (λ x. and_then (defined_function f s r x.1.1.1.1 r.body)
-      (λ d. Ok (record s { routines = s.routines ++ r ∷ []; functions = s.functions ++ d })))
+    (λ d. Ok (record s { routines = s.routines ++ r ∷ []; functions = s.functions ++ d })))
 
 -- ---- files
 
 abbrev pub with_struct : Frame → Sofar → Name → List OneField → ℕ → Sofar
 with_struct f s n fields cells = record s {
   structs = record { number = number_of_struct f.names n.word; fields = map (field_info f) fields; cells = cells } ∷ s.structs;
-  defined = record { number = number_of_struct f.names n.word; fields = map (field_decl f fields) fields } ∷ s.defined
+  defined = record { number = number_of_struct f.names n.word; fields = map (field_decl f fields) fields } ∷ s.defined;
 }
 
 abbrev pub struct : Frame → Sofar → Name → List OneField → Checked Sofar
@@ -397,7 +398,7 @@ program_of f s = record {
   globals = s.globals;
   literals = literals_in (written_of f.externals);
   functions = s.functions;
-  points = record { names = f.points; updates = length (update_names f.externals) }
+  points = record { names = f.points; updates = length (update_names f.externals) };
 }
 
 -- the version of a file, or its faults

@@ -1,5 +1,5 @@
 -- The format of `printf` (ISO/IEC 9899:2011, 7.21.6.1): `%d`, `%ld`, `%c`, `%s` and `%%` alone.
-use Rattle.std.specs.Prelude.{ℕ, ◌==◌, Bool, List, [], ◌∷◌, ◌++◌, Option, Some, None, if◌then◌else◌}
+use Rattle.std.specs.Prelude.{ℕ, ◌==◌, List, [], ◌∷◌, Option, Some, None, if◌then◌else◌}
 use Rattle.std.specs.Option.{option_map}
 
 -- a piece of a format

@@ -1,9 +1,9 @@
 -- What an expression is to the expression around it, and which values and conversions it allows (ISO/IEC 9899:2011, 6.3).
-use Rattle.std.specs.Prelude.{ℕ, ℤ, pos, ◌==◌, ◌&&◌, ◌||◌, Bool, true, false, List, [], ◌∷◌, Ok, Err, Option, Some, None, if◌then◌else◌}
+use Rattle.std.specs.Prelude.{ℕ, ℤ, pos, ◌&&◌, Bool, Ok, Some, if◌then◌else◌}
 use Rattle.kt_tree.specs.declared.expr.Constant.TheVariants as constant
 use Rattle.kt_tree.specs.declared.expr.Operation.TheVariants as operation
 use Rattle.kt_tree.specs.declared.expr.Request.TheVariants as request
-use Rattle.kt_tree.specs.Tree.{Expression, Constant', LocalRead, Operated, Requested, Expressions, NoMore, More}
+use Rattle.kt_tree.specs.Tree.{Expression, Constant', LocalRead, Operated, Requested, NoMore, More}
 use Rattle.kt_check.specs.declared.ctype.CType.{CType}
 use Rattle.kt_check.specs.Types.{char, int, pointer_to, is_integer, is_pointer, same_ctype}
 use Rattle.kt_check.specs.declared.fault.CheckFault.TheVariants.{BadType}

@@ -1,7 +1,6 @@
 -- One rule for each operator (ISO/IEC 9899:2011, 6.5). `at` is where the whole expression begins, which is where its left
 -- operand begins; `right` is where its right operand begins.
-use Rattle.std.specs.Prelude.{ℕ, pos, ◌==◌, ◌&&◌, ◌||◌, not, Bool, true, false, List, [], ◌∷◌, Ok, Err, Option, Some, None, if◌then◌else◌}
-use Rattle.std.specs.Option.{is_some}
+use Rattle.std.specs.Prelude.{ℕ, pos, ◌==◌, ◌&&◌, ◌||◌, not, Bool, true, false, Ok, Option, Some, None, if◌then◌else◌}
 use Rattle.kt_lex.specs.declared.number.Number.{Number}
 use Rattle.kt_grammar.specs.declared.operator.BinaryOperator.{BinaryOperator}
 use Rattle.kt_grammar.specs.declared.operator.BinaryOperator.TheVariants as binary
@@ -12,17 +11,16 @@ use Rattle.kt_grammar.specs.declared.operator.PrefixOperator.TheVariants as pref
 use Rattle.kt_grammar.specs.declared.operator.StepOperator.{StepOperator}
 use Rattle.kt_grammar.specs.declared.operator.StepOperator.TheVariants as step
 use Rattle.kt_grammar.specs.declared.tree.Name.{Name}
-use Rattle.kt_tree.specs.declared.expr.Constant.TheVariants as constant
 use Rattle.kt_tree.specs.declared.expr.Operation.{Operation}
 use Rattle.kt_tree.specs.declared.expr.Operation.TheVariants as operation
 use Rattle.kt_tree.specs.declared.expr.Request.TheVariants as request
-use Rattle.kt_tree.specs.Tree.{Expression, Constant', LocalRead, LocalSet, LocalSwapped, Operated, Requested, Modified, Both, Either, Chosen, NoMore, More}
+use Rattle.kt_tree.specs.Tree.{Expression, LocalRead, LocalSet, LocalSwapped, Operated, Requested, Modified, Both, Either, Chosen, NoMore, More}
 use Rattle.kt_check.specs.declared.ctype.CType.{CType}
-use Rattle.kt_check.specs.Types.{char, int, long, pointer_to, pointee, is_integer, is_pointer, is_scalar, same_ctype, common}
+use Rattle.kt_check.specs.Types.{int, long, pointer_to, pointee, is_integer, is_pointer, is_scalar, same_ctype, common}
 use Rattle.kt_check.specs.declared.fault.CheckFault.TheVariants.{Unknown, BadType, Incomplete}
 use Rattle.kt_check.specs.Checked.{Checked, fault, and_then, both, found}
 use Rattle.kt_check.specs.Environment.{Environment, Struct, Found, is_struct, struct_in, is_complete, field_from}
-use Rattle.kt_check.specs.Operands.{Operand, Valued, Zero, Null, LocalPlace, CellPlace, ArrayPlace, WholePlace, NoResult, Value, value_of_type, number_value, zero, null_of, value, scalar, integer, pointer, converted_to, convert}
+use Rattle.kt_check.specs.Operands.{Operand, Valued, Zero, Null, LocalPlace, CellPlace, ArrayPlace, WholePlace, Value, value_of_type, number_value, zero, null_of, value, scalar, integer, pointer, converted_to, convert}
 
 abbrev pub operated : Environment → Operation → CType → Expression → Expression → Expression
 operated env op t a b = Operated op (env.place t) (More a (More b NoMore))

@@ -1,6 +1,6 @@
 -- The typing of statements and blocks (ISO/IEC 9899:2011, 6.2.1 and 6.8).
-use Rattle.std.specs.Prelude.{ℕ, suc, ◌+◌, ◌==◌, ◌&&◌, ◌||◌, not, nat_le, Bool, true, false, List, [], ◌∷◌, ◌++◌, map, take, slice_get, Ok, Err, Option, Some, None, if◌then◌else◌}
-use Rattle.std.specs.Option.{is_some, option_map}
+use Rattle.std.specs.Prelude.{ℕ, suc, ◌&&◌, ◌||◌, not, nat_le, Bool, true, false, List, [], ◌∷◌, take, Ok, Option, Some, None, if◌then◌else◌}
+use Rattle.std.specs.Option.{is_some}
 use Rattle.std.specs.List.{list_any}
 use Rattle.std.specs.Str.{bytes_eq}
 use Rattle.kt_grammar.specs.declared.tree.Base.{Base}
@@ -10,13 +10,13 @@ use Rattle.kt_grammar.specs.Tree.{Term}
 use Rattle.kt_syntax.specs.declared.tree.Extent.{Extent}
 use Rattle.kt_syntax.specs.declared.tree.Extent.TheVariants as extent
 use Rattle.kt_syntax.specs.declared.tree.Pointer.{Pointer}
-use Rattle.kt_syntax.specs.Tree.{Local, Declaration, Start, NoStart, Declares, Evaluates, Statement as Syntax, Declared, Compound as Block, Empty, Evaluated as Expr, Returned as Return, Broken as Break, Continued as Continue, Conditional as If, Alternative as IfElse, Looped as While, Repeated as Do, Counted as For, Statements as Entries, Nothing as NoEntries, More as Entry}
+use Rattle.kt_syntax.specs.Tree.{Local, Start, NoStart, Declares, Evaluates, Statement as Syntax, Declared, Compound as Block, Empty, Evaluated as Expr, Returned as Return, Broken as Break, Continued as Continue, Conditional as If, Alternative as IfElse, Looped as While, Repeated as Do, Counted as For, Statements as Entries, Nothing as NoEntries, More as Entry}
 use Rattle.kt_check.specs.declared.ctype.CType.{CType}
-use Rattle.kt_tree.specs.Tree.{Expression, LocalRead, LocalSet, Statement, Evaluated, Undefined, Compound, Conditional, Looped, Repeated, Returned, Broken, Continued, Statements, Done, Then}
+use Rattle.kt_tree.specs.Tree.{Expression, LocalSet, Statement, Evaluated, Undefined, Compound, Conditional, Looped, Repeated, Returned, Broken, Continued, Statements, Done, Then}
 use Rattle.kt_check.specs.declared.fault.CheckFault.TheVariants.{Unknown, Twice, BadType, Incomplete, Note}
 use Rattle.kt_check.specs.Checked.{Checked, fault, and_then, both, holds}
 use Rattle.kt_check.specs.Environment.{Environment, Visible, Outer, Global, is_complete}
-use Rattle.kt_check.specs.Operands.{Operand, Valued, Zero, Null, WholePlace, NoResult as NoValue, value, scalar, convert, zero}
+use Rattle.kt_check.specs.Operands.{Operand, NoResult as NoValue, scalar, convert}
 use Rattle.kt_check.specs.Builtins.{builtin_named}
 use Rattle.kt_check.specs.Terms.{typing, first_token}
 use Rattle.kt_check.specs.Types.{is_integer, is_scalar, ctype}
@@ -136,9 +136,10 @@ perhaps f (Some x) = and_then (f x) (λ y. Ok (Some y))
 -- what is returned, in a function with a result or without
 abbrev pub returned : Body → State → ℕ → Option Term → Checked Statement
 returned body s at None = if is_some body.result then fault (BadType at) else Ok (Returned None)
-returned body s at (Some e) = elim body.result as (λ _. Checked Statement)
-    [ None ↦ fault (BadType at)
-    | (Some t) ↦ and_then (typing (here body s) e) (λ o. and_then (convert (here body s) t (first_token e) (first_token e) o) (λ v. Ok (Returned (Some v)))) ]
+returned body s at (Some e) = elim body.result as (λ _. Checked Statement) [
+  | None ↦ fault (BadType at)
+  | (Some t) ↦ and_then (typing (here body s) e) (λ o. and_then (convert (here body s) t (first_token e) (first_token e) o) (λ v. Ok (Returned (Some v))))
+]
 
 -- ---- statements
 

@@ -1,10 +1,8 @@
 -- The typing of expressions.
-use Rattle.std.specs.Prelude.{ℕ, pos, negsuc, slice_get, ◌==◌, ◌&&◌, ◌||◌, not, Bool, true, false, List, [], ◌∷◌, ◌++◌, Ok, Err, Option, Some, None, if◌then◌else◌}
+use Rattle.std.specs.Prelude.{ℕ, pos, negsuc, slice_get, ◌==◌, Bool, true, false, List, [], ◌∷◌, Ok, Option, Some, None, if◌then◌else◌}
 use Rattle.std.specs.List.{position_from}
 use Rattle.std.specs.Option.{is_some}
 use Rattle.kt_grammar.specs.declared.operator.BinaryOperator.TheVariants as binary
-use Rattle.kt_grammar.specs.declared.operator.StepOperator.{StepOperator}
-use Rattle.kt_grammar.specs.declared.operator.PrefixOperator.{PrefixOperator}
 use Rattle.kt_grammar.specs.declared.tree.Base.{Base}
 use Rattle.kt_grammar.specs.declared.tree.Base.TheVariants as base
 use Rattle.kt_grammar.specs.declared.tree.Name.{Name}
@@ -16,13 +14,13 @@ use Rattle.kt_tree.specs.Tree.{Expression, Constant', Requested, Called as Calle
 use Rattle.kt_check.specs.declared.ctype.CType.{CType}
 use Rattle.kt_check.specs.declared.builtin.Builtin.{Builtin}
 use Rattle.kt_check.specs.declared.builtin.Builtin.TheVariants as builtin
-use Rattle.kt_check.specs.declared.fault.CheckFault.TheVariants.{Unknown, BadType, Incomplete, Entry, Note}
-use Rattle.kt_check.specs.Checked.{Checked, fault, and_then, both, found}
-use Rattle.kt_check.specs.Types.{char, int, mutex, pointer_to, pointee, is_integer, is_pointer, same_ctype, ctype}
+use Rattle.kt_check.specs.declared.fault.CheckFault.TheVariants.{Unknown, BadType, Incomplete, Note}
+use Rattle.kt_check.specs.Checked.{Checked, fault, and_then, both}
+use Rattle.kt_check.specs.Types.{char, int, mutex, pointer_to, is_integer, same_ctype, ctype}
 use Rattle.kt_check.specs.Environment.{Environment, Outer, Global, Function, Declared, local_named, is_complete}
-use Rattle.kt_check.specs.Operands.{Operand, Valued, Zero, Null, LocalPlace, CellPlace, ArrayPlace, WholePlace, NoResult, Value, value_of_type, number_value, value, scalar, integer, pointer, convert, converted_to}
+use Rattle.kt_check.specs.Operands.{Operand, Valued, Null, LocalPlace, ArrayPlace, NoResult, Value, number_value, scalar, integer, pointer, convert, converted_to}
 use Rattle.kt_check.specs.Rules.{number, element, member, pointed, operator, choice, assignment, changed, unary, step_operator, one, place_at}
-use Rattle.kt_check.specs.Builtins.{builtin_named, Argument, one_of, gives, asks_pointer, asks_integer, points_to, printed, updated, updating_from, created, migrated}
+use Rattle.kt_check.specs.Builtins.{builtin_named, Argument, one_of, gives, asks_pointer, asks_integer, printed, updated, updating_from, created, migrated}
 
 -- the place of an expression's first token
 abbrev pub first_token : Term → ℕ

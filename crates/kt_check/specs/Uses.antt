@@ -1,20 +1,19 @@
 -- Which types and structs a file names, in the order of the file.
-use Rattle.std.specs.Prelude.{ℕ, ◌+◌, Bool, List, [], ◌∷◌, ◌++◌, flat_map, codes, Option, Some, None, if◌then◌else◌}
+use Rattle.std.specs.Prelude.{ℕ, ◌+◌, List, [], ◌∷◌, ◌++◌, flat_map, codes, Option, Some, None, if◌then◌else◌}
 use Rattle.std.specs.Str.{bytes_eq}
 use Rattle.kt_grammar.specs.declared.tree.Base.{Base}
 use Rattle.kt_grammar.specs.declared.tree.Base.TheVariants as base
 use Rattle.kt_grammar.specs.declared.tree.Name.{Name}
 use Rattle.kt_grammar.specs.declared.tree.TypeName.{TypeName}
 use Rattle.kt_lex.specs.declared.number.Number.{Number}
-use Rattle.kt_grammar.specs.Tree.{Term, Constant, Character, Text, Null, Eof, Named, Called, Parenthesised, SizeOf, RuleValue, OldSymbol, Transformed, Element, Member, Pointed, Stepped, Prefixed, Converted, Operated, Chosen, Assigned, Terms, Nothing, More}
+use Rattle.kt_grammar.specs.Tree.{Term, Text, Null, Called, Parenthesised, SizeOf, Element, Member, Pointed, Stepped, Prefixed, Converted, Operated, Chosen, Assigned, Terms, Nothing, More}
 use Rattle.kt_syntax.specs.declared.tree.Stars.{Stars}
 use Rattle.kt_syntax.specs.declared.tree.Pointer.{Pointer}
 use Rattle.kt_syntax.specs.declared.tree.Declarator.{Declarator}
 use Rattle.kt_syntax.specs.declared.tree.GlobalDeclarator.{GlobalDeclarator}
 use Rattle.kt_syntax.specs.declared.tree.Parameter.{Parameter}
 use Rattle.kt_syntax.specs.declared.tree.Fields.{Fields}
-use Rattle.kt_syntax.specs.Tree.{Local, Declaration, Start, NoStart, Declares, Evaluates, Statement, Declared, Compound, Empty, Evaluated, Returned, Broken, Continued, Conditional, Alternative, Looped, Repeated, Counted, Statements, Nothing as NoStatements, More as Then, Definition, Routine, External, StructMentioned, StructDefined, GlobalsDeclared, FunctionDeclared}
-use Rattle.kt_syntax.specs.Tree.{Tree}
+use Rattle.kt_syntax.specs.Tree.{Local, Declaration, Start, NoStart, Declares, Evaluates, Statement, Declared, Compound, Evaluated, Returned, Conditional, Alternative, Looped, Repeated, Counted, Statements, Nothing as NoStatements, More as Then, Routine, External, StructMentioned, StructDefined, GlobalsDeclared, FunctionDeclared}
 
 -- a type as a text names it: a base with so many stars, or an array of so many of those
 pub data Use : Type 0 where

@@ -1,10 +1,9 @@
 -- What the code's environments, operands and values stand for.
-use Rattle.std.specs.Prelude.{ℕ, Bool, true, false, List, [], ◌∷◌, ◌++◌, map, Option}
+use Rattle.std.specs.Prelude.{ℕ, Bool, true, false, List, [], ◌∷◌, ◌++◌, map}
 use Rattle.std.specs.Option.{option_map}
 use Rattle.std.specs.Map.{lookup}
 use Rattle.std.specs.Str.{bytes_eq}
 use Rattle.kt_tree.specs.Tree.{Expression, Expressions, NoMore, More, expression_of}
-use Rattle.kt_check.specs.declared.ctype.CType.{CType}
 use Rattle.kt_check.specs.declared.operand.Operand.{Operand as OperandCode}
 use Rattle.kt_check.specs.declared.operand.Operand.TheVariants as code
 use Rattle.kt_check.specs.declared.operand.Value.{Value as ValueCode}
@@ -87,7 +86,7 @@ environment_of e = record {
   points = map (λ n. n.items) e.points.now.keys;
   locals = e.locals.now;
   noted = e.noted;
-  visible = map visible_of (latest_first e.visible.now)
+  visible = map visible_of (latest_first e.visible.now);
 }
 
 -- ---- tests

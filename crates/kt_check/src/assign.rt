@@ -292,11 +292,7 @@ pub(crate) fn assignment(
     match compound_of(op) {
         None => assigned(env, at, right, a, e),
         Some(op) => {
-            let change = Change {
-                at,
-                old: false,
-                op,
-            };
+            let change = Change { at, old: false, op };
             compound(env, change, right, a, e)
         }
     }

@@ -33,11 +33,7 @@ fn arms(a: &Value, b: &Value) -> Option<CType>
 
 /// The values of two arms, of which one may be null, which is then of the other's type.
 #[tactic(auto, using(crate::proofs::Nulls::null_arms))]
-fn arm_values(
-    env: &Environment<'_>,
-    at: u32,
-    pair: Pair,
-) -> Result<(Value, Value), CheckFault>
+fn arm_values(env: &Environment<'_>, at: u32, pair: Pair) -> Result<(Value, Value), CheckFault>
     ensures { Judges values_of result (arm_values (environment_of env.now) at pair.at pair.other (operand_of pair.left) (operand_of pair.right)) }
 {
     let left = is_null(&pair.left);

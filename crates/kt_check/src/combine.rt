@@ -88,12 +88,7 @@ fn moved(
 }
 
 /// The operation of two integers.
-fn joined(
-    at: u32,
-    op: BinaryOperator,
-    a: CType,
-    b: CType,
-) -> Result<Combined, CheckFault>
+fn joined(at: u32, op: BinaryOperator, a: CType, b: CType) -> Result<Combined, CheckFault>
     ensures { Judges combined_of result (and_then (found (arithmetic_of op) (BadType at)) (λ o. Ok (record { operation = o; own = common a b }))) }
 {
     match arithmetic_of(op) {
@@ -177,12 +172,7 @@ fn elements_between(
 }
 
 /// An operation of two values, in their order.
-fn in_order(
-    env: &Environment<'_>,
-    c: Combined,
-    a: Value,
-    b: Value,
-) -> Result<Operand, CheckFault>
+fn in_order(env: &Environment<'_>, c: Combined, a: Value, b: Value) -> Result<Operand, CheckFault>
     ensures { Judges operand_of result (Ok (in_order (environment_of env.now) (combined_of c) (value_of a) (value_of b))) }
 {
     let whole = operated(env, c.operation, c.own, a.expression, b.expression)?;
@@ -212,12 +202,7 @@ fn plain_sum(
 
 /// An integer before the pointer that it moves.
 #[tactic(auto, using(crate::proofs::Parts::parts))]
-fn turned_sum(
-    env: &Environment<'_>,
-    at: u32,
-    a: Value,
-    b: Value,
-) -> Result<Operand, CheckFault>
+fn turned_sum(env: &Environment<'_>, at: u32, a: Value, b: Value) -> Result<Operand, CheckFault>
     ensures { Judges operand_of result (and_then (combined (environment_of env.now) at binary.Add b.ty a.ty) (λ c. Ok (in_order (environment_of env.now) c (value_of a) (value_of b)))) }
 {
     match combined(env, at, BinaryOperator::Add, b.ty, a.ty) {

@@ -147,11 +147,7 @@ fn with_null(env: &Environment<'_>, pair: Pair) -> Result<(Value, Value), CheckF
 
 /// `a == b` and `a != b`
 #[tactic(auto, using(crate::proofs::Parts::parts))]
-fn equal(
-    env: &Environment<'_>,
-    operation: Operation,
-    pair: Pair,
-) -> Result<Operand, CheckFault>
+fn equal(env: &Environment<'_>, operation: Operation, pair: Pair) -> Result<Operand, CheckFault>
     ensures { Judges operand_of result (equal (environment_of env.now) pair.at pair.other operation (operand_of pair.left) (operand_of pair.right)) }
 {
     let at = pair.at;
@@ -214,11 +210,7 @@ fn of_values(
 
 /// An operator that is no `&&`, `||`, `==` or `!=`.
 #[tactic(auto, using(crate::proofs::Parts::parts))]
-fn plain(
-    env: &Environment<'_>,
-    op: BinaryOperator,
-    pair: Pair,
-) -> Result<Operand, CheckFault>
+fn plain(env: &Environment<'_>, op: BinaryOperator, pair: Pair) -> Result<Operand, CheckFault>
     ensures { Judges operand_of result (and_then (both (value (environment_of env.now) pair.at pair.at (operand_of pair.left)) (value (environment_of env.now) pair.other pair.at (operand_of pair.right))) (λ x. of_values (environment_of env.now) pair.at op x.0 x.1)) }
 {
     let at = pair.at;

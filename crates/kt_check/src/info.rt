@@ -50,4 +50,3 @@ pub(crate) struct Visible<'f> {
     pub name: &'f [u8],
     pub local: u32,
 }
-

@@ -89,12 +89,7 @@ pub(crate) fn loaded(alloc: Global, ty: u32, pointer: Expr) -> Result<Expr, Allo
 
 /// The store of a value into the cell of a type at a pointer.
 #[tactic(auto, using(crate::proofs::Nodes::nodes))]
-pub(crate) fn stored(
-    alloc: Global,
-    ty: u32,
-    pointer: Expr,
-    value: Expr,
-) -> Result<Expr, AllocError>
+pub(crate) fn stored(alloc: Global, ty: u32, pointer: Expr, value: Expr) -> Result<Expr, AllocError>
     ensures { IfOk result (λ x. expression_of x ≡ Requested request.Store (Some ty) (More (expression_of pointer) (More (expression_of value) NoMore))) }
 {
     let operands = two_of(alloc, pointer, value)?;

@@ -125,12 +125,7 @@ impl Operand {
 
     /// The value of an operand that stands at `own` in an expression that begins at `up` (6.3.2.1). An array is a pointer
     /// to its first element; a struct or mutex has no value, nor has a call without a result.
-    pub(crate) fn value(
-        self,
-        env: &Environment<'_>,
-        own: u32,
-        up: u32,
-    ) -> Result<Value, CheckFault>
+    pub(crate) fn value(self, env: &Environment<'_>, own: u32, up: u32) -> Result<Value, CheckFault>
         ensures { Judges value_of result (value (environment_of env.now) own up (operand_of self)) }
     {
         match self {
@@ -272,11 +267,7 @@ impl Value {
     }
 
     /// The value in another type, by number.
-    pub(crate) fn converted_to(
-        self,
-        env: &Environment<'_>,
-        t: CType,
-    ) -> Result<Expr, CheckFault>
+    pub(crate) fn converted_to(self, env: &Environment<'_>, t: CType) -> Result<Expr, CheckFault>
         ensures { Judges expression_of result (Ok (converted_to (environment_of env.now) t (value_of self))) }
     {
         if self.ty.is(t) {
@@ -288,12 +279,7 @@ impl Value {
     }
 
     /// The value as one of another type: integers convert by value, and pointers to their own type.
-    fn convert(
-        self,
-        env: &Environment<'_>,
-        t: CType,
-        up: u32,
-    ) -> Result<Expr, CheckFault>
+    fn convert(self, env: &Environment<'_>, t: CType, up: u32) -> Result<Expr, CheckFault>
         ensures { Judges expression_of result (convert_value (environment_of env.now) t up (value_of self)) }
     {
         if t.is_integer() && self.ty.is_integer() {

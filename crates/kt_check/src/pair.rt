@@ -22,11 +22,7 @@ pub(crate) struct Pair {
 impl Pair {
     /// The two values, in an expression at `up`.
     #[tactic(auto, using(crate::proofs::Parts::parts))]
-    pub(crate) fn values(
-        self,
-        env: &Environment<'_>,
-        up: u32,
-    ) -> Result<(Value, Value), CheckFault>
+    pub(crate) fn values(self, env: &Environment<'_>, up: u32) -> Result<(Value, Value), CheckFault>
         ensures { Judges values_of result (both (value (environment_of env.now) self.at up (operand_of self.left)) (value (environment_of env.now) self.other up (operand_of self.right))) }
     {
         both(

@@ -31,12 +31,7 @@ pub(crate) fn place_at(t: CType, pointer: Expr) -> Operand
 }
 
 /// The element of a type at a pointer and so many elements on.
-fn element_at(
-    env: &Environment<'_>,
-    p: Value,
-    i: Value,
-    e: CType,
-) -> Result<Operand, CheckFault>
+fn element_at(env: &Environment<'_>, p: Value, i: Value, e: CType) -> Result<Operand, CheckFault>
     ensures { Judges operand_of result (Ok (place_at e (operated (environment_of env.now) (operation.ElementAfter ((environment_of env.now).place e)) p.ty (expression_of p.expression) (expression_of i.expression)))) }
 {
     let operation = Operation::ElementAfter(env.place(e));
@@ -46,12 +41,7 @@ fn element_at(
 }
 
 /// The element that a pointer and an index give.
-fn element_place(
-    env: &Environment<'_>,
-    at: u32,
-    p: Value,
-    i: Value,
-) -> Result<Operand, CheckFault>
+fn element_place(env: &Environment<'_>, at: u32, p: Value, i: Value) -> Result<Operand, CheckFault>
     ensures { Judges operand_of result (element_place (environment_of env.now) at (value_of p) (value_of i) (pointee p.ty)) }
 {
     match p.ty.pointee() {

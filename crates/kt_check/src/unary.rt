@@ -98,12 +98,7 @@ fn address_of(at: u32, a: Operand) -> Result<Operand, CheckFault>
 
 /// `-a`
 #[tactic(auto, using(crate::proofs::Parts::parts))]
-fn negated(
-    env: &Environment<'_>,
-    at: u32,
-    inner: u32,
-    a: Operand,
-) -> Result<Operand, CheckFault>
+fn negated(env: &Environment<'_>, at: u32, inner: u32, a: Operand) -> Result<Operand, CheckFault>
     ensures { Judges operand_of result (unary (environment_of env.now) at inner prefix.Negate (operand_of a)) }
 {
     let v = a.integer(env, inner, at)?;
@@ -112,12 +107,7 @@ fn negated(
 
 /// `!a`
 #[tactic(auto, using(crate::proofs::Parts::parts))]
-fn inverted(
-    env: &Environment<'_>,
-    at: u32,
-    inner: u32,
-    a: Operand,
-) -> Result<Operand, CheckFault>
+fn inverted(env: &Environment<'_>, at: u32, inner: u32, a: Operand) -> Result<Operand, CheckFault>
     ensures { Judges operand_of result (unary (environment_of env.now) at inner prefix.Not (operand_of a)) }
 {
     let v = a.scalar(env, inner, at)?;
@@ -126,12 +116,7 @@ fn inverted(
 
 /// `*a`
 #[tactic(auto, using(crate::proofs::Parts::parts))]
-fn pointed_to(
-    env: &Environment<'_>,
-    at: u32,
-    inner: u32,
-    a: Operand,
-) -> Result<Operand, CheckFault>
+fn pointed_to(env: &Environment<'_>, at: u32, inner: u32, a: Operand) -> Result<Operand, CheckFault>
     ensures { Judges operand_of result (unary (environment_of env.now) at inner prefix.Dereference (operand_of a)) }
 {
     let p = a.pointer(env, inner, at)?;
@@ -147,11 +132,7 @@ fn stepped(
 ) -> Result<Operand, CheckFault>
     ensures { Judges operand_of result (changed (environment_of env.now) at false op (operand_of a) (one (environment_of env.now))) }
 {
-    let change = Change {
-        at,
-        old: false,
-        op,
-    };
+    let change = Change { at, old: false, op };
     let v = one(env);
     changed(env, change, a, v)
 }
