@@ -1,0 +1,14 @@
+pub mod Checked
+pub mod Judges
+pub mod Uses
+pub mod Types
+pub mod Environment
+pub mod Operands
+pub mod Views
+pub mod Formats
+pub mod Rules
+pub mod Builtins
+pub mod Terms
+pub mod Statements
+pub mod Tables
+pub mod Files
