@@ -1,6 +1,0 @@
-mod damaged;
-mod depth;
-mod print_expr;
-mod print_file;
-mod trees;
-mod verdict;
