@@ -18,13 +18,13 @@ use Rattle.kt_types.specs.contracts.kinds.TyPartialEq.TheImpl.{eq-value}
 use Rattle.kt_check.specs.declared.info.StructInfo.{StructInfo}
 use Rattle.kt_check.specs.declared.info.FieldInfo.{FieldInfo}
 use Rattle.kt_check.specs.declared.info.Visible.{Visible}
-use Rattle.kt_check.specs.Types.{same_type, place_of_type}
+use Rattle.kt_check.specs.Types.{same_type, place_of_type, place_by}
 use Rattle.kt_check.specs.Environment.{FieldOf, Found, field_from, local_named, struct_numbered, Struct}
 use Rattle.kt_check.specs.Views.{latest_first, visible_of, struct_of}
 
 -- ---- types
 
-same-type : (t u : Ty) → eq-value.it t u ≡ same_type t u
+pub same-type : (t u : Ty) → eq-value.it t u ≡ same_type t u
 same-type t u = search rules
 
 type-place : (types : List Ty) (t : Ty) → elim (position (eq-value.it t) types) as (λ _. ℕ) [ None ↦ 0 | (Some n) ↦ n ] ≡ place_of_type types t
@@ -45,6 +45,23 @@ bytes-same a b e = (bytes_eq-Decides a b).0 e
 
 bytes-flip : (a b : List ℕ) → bytes_eq a b ≡ bytes_eq b a
 bytes-flip a b = nat_list_eq_equiv.symm a b
+
+-- ---- names in tables
+
+module _ (name : List ℕ) where
+  names-by : (n : ℕ) (keys : List (Vec ℕ)) → position_from (λ k. bytes_eq name k.items) n keys ≡ position_from (λ m. bytes_eq m name) n (map (λ k. k.items) keys)
+  names-by n [] = refl
+  names-by n (k ∷ keys) = by (bytes_eq name k.items) refl (names-by (n + 1) keys)
+    where
+      by : (b : Bool) → bytes_eq name k.items ≡ b → position_from (λ k. bytes_eq name k.items) (n + 1) keys ≡ position_from (λ m. bytes_eq m name) (n + 1) (map (λ k. k.items) keys)
+          → position_from (λ k. bytes_eq name k.items) n (k ∷ keys) ≡ position_from (λ m. bytes_eq m name) n (map (λ k. k.items) (k ∷ keys))
+      by true t later = rw (bytes-flip k.items name, t) refl
+      by false t later = rw (bytes-flip k.items name, t) later
+
+  pub name-place : (keys : List (Vec ℕ)) (o : Option ℕ) → o ≡ position (λ k. bytes_eq name k.items) keys
+      → elim o as (λ _. ℕ) [ None ↦ 0 | (Some n) ↦ n ] ≡ place_by (λ m. bytes_eq m name) (map (λ k. k.items) keys)
+  name-place keys o e =
+      ap (λ (p : Option ℕ). elim p as (λ _. ℕ) [ None ↦ 0 | (Some n) ↦ n ]) (e ∙ position_from-zero _ keys ∙ names-by 0 keys)
 
 -- ---- fields
 
@@ -90,15 +107,15 @@ module _ (name : List ℕ) where
 
 -- ---- structs
 
-abbrev or_else : {A : Type 0} → Option A → Option A → Option A
+abbrev pub or_else : {A : Type 0} → Option A → Option A → Option A
 or_else (Some x) y = Some x
 or_else None y = y
 
-abbrev tested : ℕ → ℕ × StructInfo → Option Struct
+abbrev pub tested : ℕ → ℕ × StructInfo → Option Struct
 tested s e = if e.0 == s then Some (struct_of e) else None
 
 module _ (s : ℕ) where
-  struct-push : (xs : List (ℕ × StructInfo)) (e : ℕ × StructInfo) → struct_numbered (map struct_of (xs ++ e ∷ [])) s ≡ or_else (struct_numbered (map struct_of xs) s) (tested s e)
+  pub struct-push : (xs : List (ℕ × StructInfo)) (e : ℕ × StructInfo) → struct_numbered (map struct_of (xs ++ e ∷ [])) s ≡ or_else (struct_numbered (map struct_of xs) s) (tested s e)
   struct-push [] e = refl
   struct-push (x ∷ xs) e = by (x.0 == s) refl (struct-push xs e)
     where
@@ -167,17 +184,17 @@ pub local-all : (visible : List Visible) (name : List ℕ) → named_below visib
 local-all visible name = rw (take_all (length visible) visible (omega arith)) refl
 
 local-step : (visible : List Visible) (name : List ℕ) (n : ℕ) (d : Visible) → n < length visible
-    → named_below visible (n + 1) name ≡ (if bytes_eq (get_or visible n d).name.now name then Some (get_or visible n d).local else named_below visible n name)
+    → named_below visible (n + 1) name ≡ (if bytes_eq (get_or visible n d).name.items name then Some (get_or visible n d).local else named_below visible n name)
 local-step visible name n d h = rw (take_more visible n d h, latest-push (take n visible) (get_or visible n d)) refl
 
 module _ (visible : List Visible) (name : List ℕ) (r : ℕ) (d : Visible) (up : 0 < r) (within : r ≤ length visible) where
-  last : named_below visible r name ≡ (if bytes_eq (get_or visible (r - 1) d).name.now name then Some (get_or visible (r - 1) d).local else named_below visible (r - 1) name)
+  last : named_below visible r name ≡ (if bytes_eq (get_or visible (r - 1) d).name.items name then Some (get_or visible (r - 1) d).local else named_below visible (r - 1) name)
   last =
       let e : r ≡ (r - 1) + 1 = omega arith in
       ap (λ k. named_below visible k name) e ∙ local-step visible name (r - 1) d (omega arith)
 
-  pub local-here : bytes_eq (get_or visible (r - 1) d).name.now name ≡ true → Some (get_or visible (r - 1) d).local ≡ named_below visible r name
-  local-here e = sym (last ∙ rw e refl)
+  pub local-here : d ≡ get_or visible (r - 1) d → bytes_eq d.name.items name ≡ true → Some d.local ≡ named_below visible r name
+  local-here is e = sym (last ∙ rw (← is, e) refl)
 
-  pub local-past : bytes_eq (get_or visible (r - 1) d).name.now name ≡ false → named_below visible (r - 1) name ≡ named_below visible r name
-  local-past e = sym (last ∙ rw e refl)
+  pub local-past : d ≡ get_or visible (r - 1) d → bytes_eq d.name.items name ≡ false → named_below visible (r - 1) name ≡ named_below visible r name
+  local-past is e = sym (last ∙ rw (← is, e) refl)

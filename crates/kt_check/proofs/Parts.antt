@@ -4,7 +4,7 @@ use Rattle.std.proofs.lemmas.Bool.Decides.{nat_tests}
 use Rattle.kt_check.specs.declared.fault.CheckFault.{CheckFault}
 use Rattle.kt_check.specs.declared.fault.CheckFault.TheVariants.{NoMemory}
 use Rattle.kt_check.specs.Checked.{Checked, Faults, and_then, both, first, fault, least, is_before, with_faults, place_of, rank_of}
-use Rattle.kt_check.specs.Judges.{Fails, Judges, is_memory, earlier, both_of}
+use Rattle.kt_check.specs.Judges.{Fails, Judges, JudgesAfter, is_memory, earlier, both_of}
 
 -- ---- what follows a part
 
@@ -41,6 +41,19 @@ pub judges-follows : {A X B : Type 0} (view : X → B) (result : Result X CheckF
 judges-follows view (Ok y) s k x e h = follows s k x e ∙ h
 judges-follows view (Err f) s k x e (inl h) = inl h
 judges-follows view (Err f) s k x e (inr h) = inr (ap first (follows s k x e) ∙ h)
+
+-- what follows a part, whatever that is judged against
+pub after_typed : {A B X Y : Type 0} (part : X → A) (whole : Y → B) (r : Result X CheckFault) (x : X) (y : Result Y CheckFault) (k : A → Checked B) → r ≡ Ok x → Judges whole y (k (part x)) → JudgesAfter part r whole y k
+after_typed part whole (Ok z) x y k e h s j =
+    let same : z ≡ x = cc in
+    judges-follows whole y s k (part x) (j ∙ ap (λ w. Ok (part w)) same) h
+after_typed part whole (Err f) x y k e h s j = absurd cc
+
+pub after_fault : {A B X : Type 0} (part : X → A) (r : Result X CheckFault) (f : CheckFault) (k : A → Checked B) → r ≡ Err f → (s : Checked A) → Judges part r s → Fails f (and_then s k)
+after_fault part (Ok x) f k e s j = absurd cc
+after_fault part (Err g) f k e s j =
+    let same : g ≡ f = cc in
+    fails s k f (subst (λ h. Fails h s) same j)
 
 -- ---- the least fault
 

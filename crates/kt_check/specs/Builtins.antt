@@ -1,6 +1,7 @@
 -- The built-in calls: which there are, and what each takes and gives. A call's faults are at its name.
-use Rattle.std.specs.Prelude.{ℕ, List, [], ◌∷◌, ◌++◌, codes, Ok, Option, Some, None, if◌then◌else◌}
+use Rattle.std.specs.Prelude.{ℕ, ◌||◌, List, [], ◌∷◌, ◌++◌, codes, Ok, Option, Some, None, if◌then◌else◌}
 use Rattle.std.specs.List.{position_from}
+use Rattle.std.specs.Option.{is_some}
 use Rattle.std.specs.Str.{bytes_eq}
 use Rattle.kt_grammar.specs.declared.tree.Name.{Name}
 use Rattle.kt_tree.specs.declared.expr.Part.{Part}
@@ -11,13 +12,36 @@ use Rattle.kt_tree.specs.Tree.{Expression, Requested, Expressions, NoMore, More}
 use Rattle.kt_check.specs.declared.ctype.CType.{CType}
 use Rattle.kt_check.specs.Types.{char, int, long, pointer_to, same_ctype}
 use Rattle.kt_tree.specs.Names.{is_point_name}
-use Rattle.kt_check.specs.declared.fault.CheckFault.TheVariants.{BadType, Entry, Note}
+use Rattle.kt_check.specs.declared.fault.CheckFault.{CheckFault}
+use Rattle.kt_check.specs.declared.fault.CheckFault.TheVariants.{Unknown, BadType, Entry, Note}
 use Rattle.kt_check.specs.declared.builtin.Builtin.{Builtin}
 use Rattle.kt_check.specs.declared.builtin.Builtin.TheVariants as builtin
 use Rattle.kt_check.specs.Checked.{Checked, fault, and_then, both, found}
-use Rattle.kt_check.specs.Environment.{Environment, Outer, Function, local_named}
+use Rattle.kt_check.specs.Environment.{Environment, Outer, Global, Function, local_named}
 use Rattle.kt_check.specs.Operands.{Operand, Valued, NoResult, Value, value, integer, pointer, convert}
-use Rattle.kt_check.specs.Formats.{Conversion, Plain, Decimal, LongDecimal, Byte, Text, format_of}
+use Rattle.kt_check.specs.declared.format.Conversion.{Conversion}
+use Rattle.kt_check.specs.declared.format.Conversion.TheVariants.{Plain, Decimal, LongDecimal, Byte, Text}
+use Rattle.kt_check.specs.Formats.{format_of}
+
+-- the built-in call of a name that has to do with updates
+unfoldable pub update_builtin : List ℕ → Option Builtin
+update_builtin n =
+    if bytes_eq n (codes "kitsune_update") then Some builtin.Update
+    else (if bytes_eq n (codes "kitsune_is_updating") then Some builtin.IsUpdating
+    else (if bytes_eq n (codes "kitsune_is_updating_from") then Some builtin.IsUpdatingFrom
+    else (if bytes_eq n (codes "kitsune_do_automigrate") then Some builtin.Automigrate
+    else (if bytes_eq n (codes "MIGRATE_LOCAL") then Some builtin.MigrateLocal
+    else None))))
+
+-- the built-in call of a name that has to do with threads or updates
+unfoldable pub thread_builtin : List ℕ → Option Builtin
+thread_builtin n =
+    if bytes_eq n (codes "pthread_mutex_lock") then Some builtin.Lock
+    else (if bytes_eq n (codes "pthread_mutex_unlock") then Some builtin.Unlock
+    else (if bytes_eq n (codes "pthread_mutex_init") then Some builtin.InitMutex
+    else (if bytes_eq n (codes "ktthread_create") then Some builtin.Create
+    else (if bytes_eq n (codes "ktthread_join") then Some builtin.Join
+    else update_builtin n))))
 
 -- the built-in call of a name
 unfoldable pub builtin_named : List ℕ → Option Builtin
@@ -29,17 +53,7 @@ builtin_named n =
     else (if bytes_eq n (codes "putchar") then Some builtin.PutChar
     else (if bytes_eq n (codes "puts") then Some builtin.Puts
     else (if bytes_eq n (codes "printf") then Some builtin.Printf
-    else (if bytes_eq n (codes "pthread_mutex_lock") then Some builtin.Lock
-    else (if bytes_eq n (codes "pthread_mutex_unlock") then Some builtin.Unlock
-    else (if bytes_eq n (codes "pthread_mutex_init") then Some builtin.InitMutex
-    else (if bytes_eq n (codes "ktthread_create") then Some builtin.Create
-    else (if bytes_eq n (codes "ktthread_join") then Some builtin.Join
-    else (if bytes_eq n (codes "kitsune_update") then Some builtin.Update
-    else (if bytes_eq n (codes "kitsune_is_updating") then Some builtin.IsUpdating
-    else (if bytes_eq n (codes "kitsune_is_updating_from") then Some builtin.IsUpdatingFrom
-    else (if bytes_eq n (codes "kitsune_do_automigrate") then Some builtin.Automigrate
-    else (if bytes_eq n (codes "MIGRATE_LOCAL") then Some builtin.MigrateLocal
-    else None))))))))))))))))
+    else thread_builtin n))))))
 
 -- An argument, and where it begins. A call's own fault is at its name, before those of its arguments: so where the number of
 -- arguments is wrong, or a name is not called so, the arguments need no judging.
@@ -136,14 +150,22 @@ abbrev pub outer_unhidden : Environment → List ℕ → Option Outer
 outer_unhidden env name = elim (local_named env.visible name) as (λ _. Option Outer) [ None ↦ env.outer name | (Some x) ↦ None ]
 
 -- the function that a thread begins at, and its argument, converted
-abbrev pub created_parts : Environment → ℕ → Option (ℕ × CType) → ℕ → Argument → Checked (ℕ × Expression)
-created_parts env up None at x = and_then (both (fault {A = ℕ} (Entry at)) x.typed) (λ y. fault (Entry at))
-created_parts env up (Some e) at x = and_then (and_then x.typed (convert env e.1 x.at up)) (λ v. Ok (e.0, v))
+-- what is wrong with a name that is no entry: nothing has it, or no definition; or a thread can't begin there
+abbrev pub entry_fault : ℕ → Option Outer → CheckFault
+entry_fault at (Some (Function d)) = if is_some d.number then Entry at else Unknown at
+entry_fault at (Some (Global g t array)) = Entry at
+entry_fault at None = Unknown at
 
+abbrev pub no_entry : Environment → Name → CheckFault
+no_entry env f =
+    if is_some (local_named env.visible f.word) || is_some (builtin_named f.word) then Entry f.at else entry_fault f.at (env.outer f.word)
+
+-- (the name stands before the argument)
 abbrev pub created : Environment → ℕ → Name → Argument → Checked Operand
 created env up f x =
-    and_then (created_parts env up (entry_of (outer_unhidden env f.word)) f.at x)
-    (λ e. Ok (gives env (request.Create e.0) int (one_of e.1)))
+    and_then (found (entry_of (outer_unhidden env f.word)) (no_entry env f))
+    (λ e. and_then (and_then x.typed (convert env e.1 x.at up))
+    (λ v. Ok (gives env (request.Create e.0) int (one_of v))))
 
 abbrev pub migrated : Environment → ℕ → Name → Checked Operand
 migrated env up n =

@@ -42,8 +42,8 @@ pub record Environment : Type 0 where
   -- the structs that are defined before here
   pub structs : List Struct
   pub outer : List ℕ → Option Outer
-  -- the places of all literals in the file, in order
-  pub literals : List ℕ
+  -- the number of the literal at a place in the file
+  pub literal : ℕ → ℕ
   -- the names of points, the update points first
   pub points : List (List ℕ)
   -- the type of each local of the function, and whether the function has `E_NOTELOCALS`

@@ -1,7 +1,7 @@
 -- The typing of files: each external declaration in its turn, the version that comes of all, or the first fault.
 use Rattle.std.specs.Prelude.{ℕ, zero, suc, ◌+◌, ◌*◌, ◌==◌, ◌&&◌, ◌||◌, not, nat_le, Bool, true, false, List, [], ◌∷◌, ◌++◌, map, length, codes, Result, Ok, Option, Some, None, if◌then◌else◌, ℤ, pos, negsuc, option_and_then}
 use Rattle.std.specs.Option.{is_some, option_map}
-use Rattle.std.specs.List.{position_from}
+use Rattle.std.specs.List.{position_from, list_any}
 use Rattle.std.specs.Str.{bytes_eq}
 use Rattle.kt_lex.specs.declared.number.Number.{Number}
 use Rattle.kt_grammar.specs.declared.tree.Base.{Base}
@@ -40,8 +40,9 @@ use Rattle.kt_check.specs.Types.{int, same_ctype, is_scalar, ctype, place_in, pl
 use Rattle.kt_check.specs.declared.ctype.Root.{Root}
 use Rattle.kt_check.specs.declared.ctype.Root.TheVariants as root
 use Rattle.kt_check.specs.Uses.{stars_of, result_stars}
-use Rattle.kt_check.specs.Statements.{Body, State, declarator_place, by_value, held, extent_outside, pointer_outside, new_name, declared, contains, entries}
-use Rattle.kt_check.specs.Tables.{struct_names, types_of, declared_type, result_type, parameter_types, outer_named, locals_of, written_of, literals_in, literal_places, update_names, point_names, plain_view, view_of, extent_of}
+use Rattle.kt_check.specs.Statements.{Body, State, declarator_place, base_for, held, extent_outside, pointer_outside, new_name, declared, contains, entries}
+use Rattle.kt_check.specs.Functions.{same_result, result_fault, agrees, parameters, no_state, body_in, is_noted, defined_function}
+use Rattle.kt_check.specs.Tables.{struct_names, types_of, declared_type, result_type, parameter_types, outer_named, locals_of, written_of, literals_in, literal_places, literal_number, update_names, point_names, plain_view, view_of, extent_of}
 
 -- what a file's syntax gives once for all: its tables
 pub record Frame : Type 0 where
@@ -50,7 +51,7 @@ pub record Frame : Type 0 where
   pub names : List (List ℕ)
   pub types : List Ty
   pub outer : List ℕ → Option Outer
-  pub literals : List ℕ
+  pub literal : ℕ → ℕ
   pub points : List (List ℕ)
 
 abbrev pub frame_of : List External → Frame
@@ -59,7 +60,7 @@ frame_of xs = record {
   names = struct_names xs;
   types = types_of xs;
   outer = outer_named (struct_names xs) xs;
-  literals = literal_places (written_of xs);
+  literal = literal_number (literal_places (written_of xs));
   points = point_names xs;
 }
 
@@ -82,7 +83,7 @@ outside f s = record {
   place = place_in f.types;
   structs = s.structs;
   outer = f.outer;
-  literals = f.literals;
+  literal = f.literal;
   points = f.points;
   locals = [];
   noted = false;
@@ -138,8 +139,12 @@ abbrev pub extent_inside : Environment → List OneField → Extent → Checked 
 extent_inside env fields (extent.Name n) = if is_some (count_field fields n.word) then Ok tt else extent_outside env (extent.Name n)
 extent_inside env fields (extent.Number at n) = extent_outside env (extent.Number at n)
 
+-- a pointer's extent in a struct (the parser gives no pointer without a star)
 abbrev pub pointer_inside : Environment → List OneField → Option Pointer → Checked (Unit {0})
-pointer_inside env fields p = elim (extent_of p) as (λ _. Checked (Unit {0})) [ None ↦ Ok tt | (Some e) ↦ extent_inside env fields e ]
+pointer_inside env fields None = Ok tt
+pointer_inside env fields (Some p) =
+    if p.stars.count == 0 then fault (BadType p.stars.at)
+    else (elim p.extent as (λ _. Checked (Unit {0})) [ None ↦ Ok tt | (Some e) ↦ extent_inside env fields e ])
 
 abbrev pub outer_view_of : Option Outer → View
 outer_view_of (Some (Global n t array)) = view.Global n
@@ -158,21 +163,36 @@ field_view f fields x = elim (extent_of x.declarator.pointer) as (λ _. View) [
 abbrev pub field_cells : Frame → Sofar → OneField → ℕ
 field_cells f s x = count_of x.declarator.count * cells_of (outside f s) (declared_type f.names x.base x.declarator.pointer)
 
--- a field of a struct with these fields, of which those before it have these names and so many cells
-abbrev pub field : Frame → Sofar → List OneField → ℕ → List (List ℕ) → OneField → Checked (Unit {0})
-field f s fields before names x =
-    and_then
-    (both (by_value (outside f s) x.base (stars_of x.declarator.pointer))
-    (both (pointer_inside (outside f s) fields x.declarator.pointer)
-    (both (holds (not (contains names x.declarator.name.word)) (Twice x.declarator.name.at))
-    (holds (is_array_count x.declarator.count && nat_le (before + field_cells f s x) 65536) (TooBig x.declarator.name.at)))))
-    (λ y. Ok tt)
+-- the fields of a struct so far: their names, the latest first, and how many cells they have
+pub record Within : Type 0 where
+  pub names : List (List ℕ)
+  pub cells : ℕ
 
--- all fields; what is left is how many cells they have
-abbrev pub fields_from : Frame → Sofar → List OneField → ℕ → List (List ℕ) → List OneField → Checked ℕ
-fields_from f s fields before names [] = Ok before
-fields_from f s fields before names (x ∷ rest) =
-    and_then (field f s fields before names x) (λ d. fields_from f s fields (before + field_cells f s x) (x.declarator.name.word ∷ names) rest)
+abbrev pub no_field : Within
+no_field = record { names = []; cells = 0 }
+
+-- a field of a struct with these fields, behind those so far
+abbrev pub field : Frame → Sofar → List OneField → Within → OneField → Checked Within
+field f s fields w x =
+    and_then
+    (both (pointer_inside (outside f s) fields x.declarator.pointer)
+    (both (holds (not (contains w.names x.declarator.name.word)) (Twice x.declarator.name.at))
+    (holds (is_array_count x.declarator.count && nat_le (w.cells + field_cells f s x) 65536) (TooBig x.declarator.name.at))))
+    (λ y. Ok (record { names = x.declarator.name.word ∷ w.names; cells = w.cells + field_cells f s x }))
+
+abbrev pub fields_with : Frame → Sofar → List OneField → Base → Within → List Declarator → Checked Within
+fields_with f s fields b w [] = Ok w
+fields_with f s fields b w (d ∷ rest) = and_then (field f s fields w (record { base = b; declarator = d })) (λ v. fields_with f s fields b v rest)
+
+-- fields of one base
+abbrev pub fields_of_base : Frame → Sofar → List OneField → Within → Fields → Checked Within
+fields_of_base f s fields w x =
+    and_then (base_for (outside f s) x.base (map (λ d. stars_of d.pointer) x.declarators)) (λ y. fields_with f s fields x.base w x.declarators)
+
+-- all fields
+abbrev pub fields_from : Frame → Sofar → List OneField → Within → List Fields → Checked Within
+fields_from f s fields w [] = Ok w
+fields_from f s fields w (x ∷ rest) = and_then (fields_of_base f s fields w x) (λ v. fields_from f s fields v rest)
 
 abbrev pub field_info : Frame → OneField → FieldOf
 field_info f x = record { name = x.declarator.name.word; ty = declared_type f.names x.base x.declarator.pointer; array = is_some x.declarator.count }
@@ -211,14 +231,11 @@ number_init bits n = option_and_then (λ k. if fits_in bits k then Some (init.Nu
 abbrev pub is_zero : Number → Bool
 is_zero n = (n.value == 0) && not n.long && not n.hexadecimal
 
-abbrev pub literal_number : List ℕ → ℕ → ℕ
-literal_number places at = elim (position_from (λ p. p == at) 0 places) as (λ _. ℕ) [ None ↦ 0 | (Some n) ↦ n ]
-
 -- the initial value of a pointer type
 abbrev pub pointer_init : Frame → CType → Constant → Option Init
 pointer_init f e written.Null = Some init.Null
 pointer_init f e (written.Number n) = if is_zero n then Some init.Null else None
-pointer_init f t (written.Text at bytes) = if same_ctype t (record { root = root.Char; stars = 1 }) then Some (init.Literal (literal_number f.literals at)) else None
+pointer_init f t (written.Text at bytes) = if same_ctype t (record { root = root.Char; stars = 1 }) then Some (init.Literal (f.literal at)) else None
 pointer_init f e _ = None
 
 abbrev pub mutex_init : Constant → Option Init
@@ -248,19 +265,18 @@ global f s b g =
     let t = declared_type f.names b g.declarator.pointer in
     let size = count_of g.declarator.count * cells_of (outside f s) t in
     and_then
-    (both (by_value (outside f s) b (stars_of g.declarator.pointer))
     (both (pointer_outside (outside f s) g.declarator.pointer)
     (both (outer_name g.declarator.name)
     (both (holds (not (has_global s g.declarator.name.word || has_routine s g.declarator.name.word)) (Twice g.declarator.name.at))
     (both (holds (is_array_count g.declarator.count && nat_le size 65536 && nat_le (s.cells + size) 1048576) (TooBig g.declarator.name.at))
-    (initial_of f t (is_some g.declarator.count) (declarator_place g.declarator.pointer g.declarator.name) g.initial))))))
+    (initial_of f t (is_some g.declarator.count) (declarator_place g.declarator.pointer g.declarator.name) g.initial)))))
     (λ x. Ok (record {
       name = g.declarator.name.word;
       ty = place_in f.types t;
       count = count_of g.declarator.count;
       array = is_some g.declarator.count;
       view = view_of f.outer b g.declarator.pointer;
-      init = x.1.1.1.1.1;
+      init = x.1.1.1.1;
     }))
 
 abbrev pub with_global : Frame → Sofar → Base → GlobalDeclarator → GlobalDecl → Sofar
@@ -269,93 +285,24 @@ with_global f s b g d = record s {
   cells = s.cells + d.count * cells_of (outside f s) (declared_type f.names b g.declarator.pointer);
 }
 
+abbrev pub globals_from : Frame → Sofar → Base → List GlobalDeclarator → Checked Sofar
+globals_from f s b [] = Ok s
+globals_from f s b (g ∷ rest) = and_then (global f s b g) (λ d. globals_from f (with_global f s b g d) b rest)
+
+-- globals of one base
 abbrev pub globals : Frame → Sofar → Base → List GlobalDeclarator → Checked Sofar
-globals f s b [] = Ok s
-globals f s b (g ∷ rest) = and_then (global f s b g) (λ d. globals f (with_global f s b g d) b rest)
+globals f s b gs = and_then (base_for (outside f s) b (map (λ g. stars_of g.declarator.pointer) gs)) (λ x. globals_from f s b gs)
 
 -- ---- functions
-
--- a result is an integer or a pointer, or `void` without stars
-abbrev pub stars_place : Option Stars → Name → ℕ
-stars_place None n = n.at
-stars_place (Some s) n = s.at
-
-abbrev pub result_fault : Frame → Sofar → Routine → Checked (Unit {0})
-result_fault f s r = elim r.result as (λ _. Checked (Unit {0})) [
-  | None ↦ holds (not (is_some r.stars)) (BadType (stars_place r.stars r.name))
-  | (Some b) ↦ and_then (both (by_value (outside f s) b (result_stars r.stars))
-      (holds (is_scalar (ctype f.names b (result_stars r.stars))) (BadType (stars_place r.stars r.name))))
-      (λ x. Ok tt)
-]
-
-abbrev pub same_types : List CType → List CType → Bool
-same_types [] [] = true
-same_types (a ∷ as') (b ∷ bs) = same_ctype a b && same_types as' bs
-same_types _ _ = false
-
-abbrev pub same_result : Option CType → Option CType → Bool
-same_result None None = true
-same_result (Some a) (Some b) = same_ctype a b
-same_result _ _ = false
-
-abbrev pub same_function : List (List ℕ) → Routine → Routine → Bool
-same_function t a b = same_result (result_type t a) (result_type t b) && same_types (parameter_types t a) (parameter_types t b)
-
--- a function is declared with one type, and defined once
-abbrev pub agrees : List (List ℕ) → Routine → List Routine → Checked (Unit {0})
-agrees t r [] = Ok tt
-agrees t r (earlier ∷ rest) =
-    if bytes_eq earlier.name.word r.name.word
-    then (if is_some earlier.body && is_some r.body then fault (Twice r.name.at)
-    else (if same_function t earlier r then agrees t r rest else fault (BadType r.name.at)))
-    else agrees t r rest
-
--- the parameters, one after the other
-abbrev pub parameters : Body → State → List Parameter → Checked State
-parameters body s [] = Ok s
-parameters body s (p ∷ rest) =
-    and_then
-    (both (held body.environment p.base p.pointer p.name) (both (pointer_outside body.environment p.pointer) (new_name body s p.name)))
-    (λ x. parameters body (declared s p.name.word) rest)
-
-abbrev pub no_state : State
-no_state = record { visible = []; own = []; next = 0 }
-
-abbrev pub body_of : Frame → Sofar → Routine → Bool → Body
-body_of f s r noted = record {
-  environment = record (outside f s) { locals = map (λ l. l.ty) (locals_of f.names r); noted = noted };
-  result = result_type f.names r;
-  names = map (λ l. l.name) (locals_of f.names r);
-}
-
-abbrev pub is_noted : Option Body' → Bool
-is_noted None = false
-is_noted (Some b) = b.noted
-
-abbrev pub typed_function : Frame → Routine → Bool → Statement → TypedFunction
-typed_function f r noted body = record {
-  name = r.name.word;
-  result = option_map (place_in f.types) (result_type f.names r);
-  params = length r.parameters;
-  noted = noted;
-  locals = map (λ l. record { name = l.name; ty = place_in f.types l.ty; view = view_of f.outer l.base l.pointer }) (locals_of f.names r);
-  body = body;
-}
-
--- the body of a function, behind its parameters
-abbrev pub defined_function : Frame → Sofar → Routine → State → Option Body' → Checked (List TypedFunction)
-defined_function f s r state None = Ok []
-defined_function f s r state (Some b) =
-    and_then (entries (body_of f s r b.noted) false state b.entries) (λ x. Ok (typed_function f r b.noted (Compound x.0) ∷ []))
 
 abbrev pub function : Frame → Sofar → Routine → Checked Sofar
 function f s r =
     and_then
-    (both (result_fault f s r)
+    (both (result_fault (outside f s) r)
     (both (outer_name r.name)
     (both (holds (not (has_global s r.name.word)) (Twice r.name.at))
-    (both (agrees f.names r s.routines) (parameters (body_of f s r (is_noted r.body)) no_state r.parameters)))))
-    (λ x. and_then (defined_function f s r x.1.1.1.1 r.body)
+    (both (agrees f.names r s.routines) (parameters (body_in (outside f s) r (is_noted r.body)) no_state r.parameters)))))
+    (λ x. and_then (defined_function (outside f s) r x.1.1.1.1 r.body)
     (λ d. Ok (record s { routines = s.routines ++ r ∷ []; functions = s.functions ++ d })))
 
 -- ---- files
@@ -366,14 +313,14 @@ with_struct f s n fields cells = record s {
   defined = record { number = number_of_struct f.names n.word; fields = map (field_decl f fields) fields } ∷ s.defined;
 }
 
-abbrev pub struct : Frame → Sofar → Name → List OneField → Checked Sofar
-struct f s n fields =
-    and_then (both (holds (not (is_some (struct_numbered s.structs (number_of_struct f.names n.word)))) (Twice n.at)) (fields_from f s fields 0 [] fields))
-    (λ x. Ok (with_struct f s n fields x.1))
+abbrev pub struct : Frame → Sofar → Name → List Fields → Checked Sofar
+struct f s n fs =
+    and_then (both (holds (not (is_some (struct_numbered s.structs (number_of_struct f.names n.word)))) (Twice n.at)) (fields_from f s (fields_in fs) no_field fs))
+    (λ x. Ok (with_struct f s n (fields_in fs) x.1.cells))
 
 abbrev pub external : Frame → Sofar → External → Checked Sofar
 external f s (StructMentioned n) = Ok s
-external f s (StructDefined n fs) = struct f s n (fields_in fs)
+external f s (StructDefined n fs) = struct f s n fs
 external f s (GlobalsDeclared b gs) = globals f s b gs
 external f s (FunctionDeclared r) = function f s r
 

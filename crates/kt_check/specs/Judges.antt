@@ -2,7 +2,7 @@
 use Rattle.std.specs.Prelude.{◌≡◌, ◌⊎◌, Bool, true, false, Result, Ok, Err, if◌then◌else◌}
 use Rattle.kt_check.specs.declared.fault.CheckFault.{CheckFault}
 use Rattle.kt_check.specs.declared.fault.CheckFault.TheVariants.{Unknown, Twice, BadType, Incomplete, TooBig, Entry, Note, NoMain, NoMemory}
-use Rattle.kt_check.specs.Checked.{Checked, first, is_before}
+use Rattle.kt_check.specs.Checked.{Checked, and_then, first, is_before}
 
 -- the fault is the first that typing gives, or there was no memory
 abbrev pub Fails : {Y : Type 0} → CheckFault → Checked Y → Type 0
@@ -12,6 +12,10 @@ Fails f spec = (f ≡ NoMemory) ⊎ (first spec ≡ Err f)
 abbrev pub Judges : {X Y : Type 0} → (X → Y) → Result X CheckFault → Checked Y → Type 0
 Judges view (Ok x) spec = spec ≡ Ok (view x)
 Judges view (Err f) spec = Fails f spec
+
+-- whatever part the one answer is judged against, the other is judged against what follows that part
+abbrev pub JudgesAfter : {X Y A B : Type 0} → (X → A) → Result X CheckFault → (Y → B) → Result Y CheckFault → (A → Checked B) → Type 0
+JudgesAfter {A = A} part x whole y k = (s : Checked A) → Judges part x s → Judges whole y (and_then s k)
 
 abbrev pub is_memory : CheckFault → Bool
 is_memory NoMemory = true

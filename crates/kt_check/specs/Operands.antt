@@ -59,6 +59,17 @@ value env own up (ArrayPlace t p) = Ok (value_of_type (pointer_to t) p)
 value env own up (WholePlace t p) = fault (BadType own)
 value env own up (NoResult e) = fault (BadType up)
 
+-- the type of an operand's value
+abbrev pub value_type : ℕ → ℕ → Operand → Checked CType
+value_type own up (Valued t e) = Ok t
+value_type own up Zero = Ok int
+value_type own up Null = fault (BadType up)
+value_type own up (LocalPlace x t) = Ok t
+value_type own up (CellPlace t p) = Ok t
+value_type own up (ArrayPlace t p) = Ok (pointer_to t)
+value_type own up (WholePlace t p) = fault (BadType own)
+value_type own up (NoResult e) = fault (BadType up)
+
 -- a value that a condition takes: an integer, or a pointer, which may be null
 abbrev pub scalar : Environment → ℕ → ℕ → Operand → Checked Value
 scalar env own up Null = Ok (value_of_type (pointer_to char) (null_of env (pointer_to char)))

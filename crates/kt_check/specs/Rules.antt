@@ -1,7 +1,8 @@
 -- One rule for each operator (ISO/IEC 9899:2011, 6.5). `at` is where the whole expression begins, which is where its left
 -- operand begins; `right` is where its right operand begins.
-use Rattle.std.specs.Prelude.{ℕ, pos, ◌==◌, ◌&&◌, ◌||◌, not, Bool, true, false, Ok, Option, Some, None, if◌then◌else◌}
+use Rattle.std.specs.Prelude.{ℕ, nat_le, pos, ◌==◌, ◌&&◌, ◌||◌, not, Bool, true, false, Ok, Option, Some, None, if◌then◌else◌}
 use Rattle.kt_lex.specs.declared.number.Number.{Number}
+use Rattle.kt_lex.specs.Numbers.{greatest}
 use Rattle.kt_grammar.specs.declared.operator.BinaryOperator.{BinaryOperator}
 use Rattle.kt_grammar.specs.declared.operator.BinaryOperator.TheVariants as binary
 use Rattle.kt_grammar.specs.declared.operator.AssignOperator.{AssignOperator}
@@ -27,14 +28,16 @@ operated env op t a b = Operated op (env.place t) (More a (More b NoMore))
 
 -- ---- constants
 
--- a number; the one spelled `0` converts to pointers
+-- the type of a number: an `int` has no suffix and is at most 2,147,483,647 (6.4.4.1)
 abbrev pub number_type : Number → CType
-number_type n = if n.long then long else int
+number_type n = if n.long || not (nat_le n.value 2147483647) then long else int
 
-abbrev pub number : Environment → Number → Operand
-number env n =
-    if (n.value == 0) && not n.long && not n.hexadecimal then Zero
-    else Valued (number_type n) (number_value env (number_type n) (pos n.value))
+-- A number; the one spelled `0` converts to pointers. (No token's number is above 9,223,372,036,854,775,807.)
+abbrev pub number : Environment → ℕ → Number → Checked Operand
+number env at n =
+    if (n.value == 0) && not n.long && not n.hexadecimal then Ok Zero
+    else (if nat_le n.value greatest then Ok (Valued (number_type n) (number_value env (number_type n) (pos n.value)))
+    else fault (BadType at))
 
 -- ---- places
 

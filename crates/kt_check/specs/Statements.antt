@@ -1,5 +1,5 @@
 -- The typing of statements and blocks (ISO/IEC 9899:2011, 6.2.1 and 6.8).
-use Rattle.std.specs.Prelude.{ℕ, suc, ◌&&◌, ◌||◌, not, nat_le, Bool, true, false, List, [], ◌∷◌, take, Ok, Option, Some, None, if◌then◌else◌}
+use Rattle.std.specs.Prelude.{ℕ, suc, ◌==◌, ◌&&◌, ◌||◌, not, nat_le, Bool, true, false, List, [], ◌∷◌, take, map, Ok, Option, Some, None, if◌then◌else◌}
 use Rattle.std.specs.Option.{is_some}
 use Rattle.std.specs.List.{list_any}
 use Rattle.std.specs.Str.{bytes_eq}
@@ -10,7 +10,7 @@ use Rattle.kt_grammar.specs.Tree.{Term}
 use Rattle.kt_syntax.specs.declared.tree.Extent.{Extent}
 use Rattle.kt_syntax.specs.declared.tree.Extent.TheVariants as extent
 use Rattle.kt_syntax.specs.declared.tree.Pointer.{Pointer}
-use Rattle.kt_syntax.specs.Tree.{Local, Start, NoStart, Declares, Evaluates, Statement as Syntax, Declared, Compound as Block, Empty, Evaluated as Expr, Returned as Return, Broken as Break, Continued as Continue, Conditional as If, Alternative as IfElse, Looped as While, Repeated as Do, Counted as For, Statements as Entries, Nothing as NoEntries, More as Entry}
+use Rattle.kt_syntax.specs.Tree.{Local, Declaration, Start, NoStart, Declares, Evaluates, Statement as Syntax, Declared, Compound as Block, Empty, Evaluated as Expr, Returned as Return, Broken as Break, Continued as Continue, Conditional as If, Alternative as IfElse, Looped as While, Repeated as Do, Counted as For, Statements as Entries, Nothing as NoEntries, More as Entry}
 use Rattle.kt_check.specs.declared.ctype.CType.{CType}
 use Rattle.kt_tree.specs.Tree.{Expression, LocalSet, Statement, Evaluated, Undefined, Compound, Conditional, Looped, Repeated, Returned, Broken, Continued, Statements, Done, Then}
 use Rattle.kt_check.specs.declared.fault.CheckFault.TheVariants.{Unknown, Twice, BadType, Incomplete, Note}
@@ -60,14 +60,14 @@ abbrev pub struct_place : Base → ℕ
 struct_place (base.Struct n) = n.at
 struct_place _ = 0
 
--- the type of a declarator; a struct that is declared by value is defined before
-abbrev pub by_value : Environment → Base → ℕ → Checked CType
-by_value env b stars = if is_complete env (ctype env.names b stars) then Ok (ctype env.names b stars) else fault (Incomplete (struct_place b))
+-- A struct that one of these declarators declares by value is defined before; they have so many stars. (The struct's name
+-- stands before all of them.)
+abbrev pub base_for : Environment → Base → List ℕ → Checked (Unit {0})
+base_for env b stars = holds (not (list_any (λ n. n == 0) stars) || is_complete env (ctype env.names b 0)) (Incomplete (struct_place b))
 
 -- what a function may hold: an integer or a pointer
-abbrev pub held : Environment → Base → Option Pointer → Name → Checked CType
-held env b p n =
-    and_then (both (by_value env b (stars_of p)) (holds (is_scalar (ctype env.names b (stars_of p))) (BadType (declarator_place p n)))) (λ x. Ok x.0)
+abbrev pub held : Environment → Base → Option Pointer → Name → Checked (Unit {0})
+held env b p n = holds (is_scalar (ctype env.names b (stars_of p))) (BadType (declarator_place p n))
 
 -- an integer global that is no array
 abbrev pub is_count : Option Outer → Bool
@@ -79,9 +79,12 @@ abbrev pub extent_outside : Environment → Extent → Checked (Unit {0})
 extent_outside env (extent.Name n) = holds (is_count (env.outer n.word)) (Unknown n.at)
 extent_outside env (extent.Number at n) = holds (nat_le n.value 65536) (Unknown at)
 
+-- a pointer's extent outside a struct (the parser gives no pointer without a star)
 abbrev pub pointer_outside : Environment → Option Pointer → Checked (Unit {0})
 pointer_outside env None = Ok tt
-pointer_outside env (Some p) = elim p.extent as (λ _. Checked (Unit {0})) [ None ↦ Ok tt | (Some e) ↦ extent_outside env e ]
+pointer_outside env (Some p) =
+    if p.stars.count == 0 then fault (BadType p.stars.at)
+    else (elim p.extent as (λ _. Checked (Unit {0})) [ None ↦ Ok tt | (Some e) ↦ extent_outside env e ])
 
 -- a local's or parameter's name: no built-in call's, once in its scope, once in a function with `E_NOTELOCALS`
 abbrev pub new_name : Body → State → Name → Checked (Unit {0})
@@ -106,10 +109,13 @@ local body s b l =
     (initial body (declared s l.name.word) s.next (ctype body.environment.names b (stars_of l.pointer)) (declarator_place l.pointer l.name) l.initial))))
     (λ x. Ok (x.1.1.1, declared s l.name.word))
 
+abbrev pub locals_from : Body → State → Base → List Local → Checked (List Statement × State)
+locals_from body s b [] = Ok ([], s)
+locals_from body s b (l ∷ rest) = and_then (local body s b l) (λ x. and_then (locals_from body x.1 b rest) (λ y. Ok (x.0 ∷ y.0, y.1)))
+
 -- locals of one base
-abbrev pub locals : Body → State → Base → List Local → Checked (List Statement × State)
-locals body s b [] = Ok ([], s)
-locals body s b (l ∷ rest) = and_then (local body s b l) (λ x. and_then (locals body x.1 b rest) (λ y. Ok (x.0 ∷ y.0, y.1)))
+abbrev pub locals : Body → State → Declaration → Checked (List Statement × State)
+locals body s d = and_then (base_for (here body s) d.base (map (λ l. stars_of l.pointer) d.locals)) (λ x. locals_from body s d.base d.locals)
 
 abbrev pub before : List Statement → Statements → Statements
 before [] rest = rest
@@ -146,14 +152,15 @@ returned body s at (Some e) = elim body.result as (λ _. Checked Statement) [
 -- what stands first in a `for`, and the scope behind it
 abbrev pub start : Body → State → Start → Checked (List Statement × State)
 start body s NoStart = Ok ([], s)
-start body s (Declares x) = locals body s x.base x.locals
+start body s (Declares x) = locals body s x
 start body s (Evaluates e) = and_then (effect_of (here body s) e) (λ v. Ok (Evaluated v ∷ [], s))
 
 -- The typing of a statement, with the number of locals declared behind it; in a loop or not. What stands behind a fault is
 -- not judged: its places are greater.
 abbrev mutual
   pub statement : Body → Bool → State → Syntax → Checked (Statement × ℕ)
-  statement body in_loop s (Declared x) = Ok (Compound Done, s.next)
+  -- (a declaration is an entry of a block alone)
+  statement body in_loop s (Declared x) = and_then (locals body (entered s) x) (λ d. Ok (Compound (before d.0 Done), d.1.next))
   statement body in_loop s (Block es) = and_then (entries body in_loop (entered s) es) (λ x. Ok (Compound x.0, x.1))
   statement body in_loop s Empty = Ok (Compound Done, s.next)
   statement body in_loop s (Expr e) = and_then (effect_of (here body s) e) (λ v. Ok (Evaluated v, s.next))
@@ -179,6 +186,6 @@ abbrev mutual
   pub entries : Body → Bool → State → Entries → Checked (Statements × ℕ)
   entries body in_loop s NoEntries = Ok (Done, s.next)
   entries body in_loop s (Entry (Declared x) rest) =
-      and_then (locals body s x.base x.locals) (λ d. and_then (entries body in_loop d.1 rest) (λ y. Ok (before d.0 y.0, y.1)))
+      and_then (locals body s x) (λ d. and_then (entries body in_loop d.1 rest) (λ y. Ok (before d.0 y.0, y.1)))
   entries body in_loop s (Entry e rest) =
       and_then (statement body in_loop s e) (λ x. and_then (entries body in_loop (record s { next = x.1 }) rest) (λ y. Ok (Then x.0 y.0, y.1)))

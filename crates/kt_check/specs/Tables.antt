@@ -228,6 +228,10 @@ literal_places [] = []
 literal_places (Literal at bytes ∷ rest) = at ∷ literal_places rest
 literal_places (_ ∷ rest) = literal_places rest
 
+-- the number of the literal at a place in the file (which has one)
+abbrev pub literal_number : List ℕ → ℕ → ℕ
+literal_number places at = elim (position_from (λ p. p == at) 0 places) as (λ _. ℕ) [ None ↦ 0 | (Some n) ↦ n ]
+
 abbrev pub updates_in : List Written → List (List ℕ)
 updates_in [] = []
 updates_in (Updates bytes ∷ rest) = bytes ∷ updates_in rest

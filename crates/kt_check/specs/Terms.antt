@@ -1,6 +1,5 @@
 -- The typing of expressions.
-use Rattle.std.specs.Prelude.{ℕ, pos, negsuc, slice_get, ◌==◌, Bool, true, false, List, [], ◌∷◌, Ok, Option, Some, None, if◌then◌else◌}
-use Rattle.std.specs.List.{position_from}
+use Rattle.std.specs.Prelude.{ℕ, pos, negsuc, nat_lt, slice_get, ◌==◌, Bool, true, false, List, [], ◌∷◌, Ok, Option, Some, None, if◌then◌else◌}
 use Rattle.std.specs.Option.{is_some}
 use Rattle.kt_grammar.specs.declared.operator.BinaryOperator.TheVariants as binary
 use Rattle.kt_grammar.specs.declared.tree.Base.{Base}
@@ -15,7 +14,7 @@ use Rattle.kt_check.specs.declared.ctype.CType.{CType}
 use Rattle.kt_check.specs.declared.builtin.Builtin.{Builtin}
 use Rattle.kt_check.specs.declared.builtin.Builtin.TheVariants as builtin
 use Rattle.kt_check.specs.declared.fault.CheckFault.TheVariants.{Unknown, BadType, Incomplete, Note}
-use Rattle.kt_check.specs.Checked.{Checked, fault, and_then, both}
+use Rattle.kt_check.specs.Checked.{Checked, fault, and_then, both, holds}
 use Rattle.kt_check.specs.Types.{char, int, mutex, pointer_to, is_integer, same_ctype, ctype}
 use Rattle.kt_check.specs.Environment.{Environment, Outer, Global, Function, Declared, local_named, is_complete}
 use Rattle.kt_check.specs.Operands.{Operand, Valued, Null, LocalPlace, ArrayPlace, NoResult, Value, number_value, scalar, integer, pointer, convert, converted_to}
@@ -75,12 +74,15 @@ named env n = elim (local_named env.visible n.word) as (λ _. Checked Operand)
 
 -- ---- literals, casts
 
--- the number of the literal of a place in the file (which has one)
-abbrev pub literal_number : List ℕ → ℕ → ℕ
-literal_number places at = elim (position_from (λ p. p == at) 0 places) as (λ _. ℕ) [ None ↦ 0 | (Some n) ↦ n ]
-
 abbrev pub string : Environment → ℕ → Operand
-string env at = Valued (pointer_to char) (Constant' (constant.Literal (literal_number env.literals at)) (env.place (pointer_to char)))
+string env at = Valued (pointer_to char) (Constant' (constant.Literal (env.literal at)) (env.place (pointer_to char)))
+
+-- A character is the `int` of its byte. (No token spells one of 256 or more.)
+abbrev pub character : Environment → ℕ → ℕ → Checked Operand
+character env at b = if nat_lt b 256 then Ok (Valued int (number_value env int (pos b))) else fault (BadType at)
+
+abbrev pub end_of_file : Environment → Operand
+end_of_file env = Valued int (number_value env int (negsuc 0))
 
 -- the type of a type name
 abbrev pub named_type : Environment → TypeName → CType
@@ -98,11 +100,15 @@ is_allocation (Called n args) = is_allocator (builtin_named n.word)
 is_allocation _ = false
 
 -- a cast to an integer type, or to the pointer type of the allocation behind it
-abbrev pub cast : Environment → ℕ → ℕ → TypeName → Bool → Operand → Checked Operand
-cast env at inner t allocates a =
-    if is_integer (named_type env t) then and_then (integer env inner at a) (λ v. Ok (Valued (named_type env t) (converted_to env (named_type env t) v)))
-    else (if allocates then and_then (pointer env inner at a) (λ v. if same_ctype v.ty (named_type env t) then Ok a else fault (BadType at))
+abbrev pub cast_to : Environment → ℕ → ℕ → CType → Bool → Operand → Checked Operand
+cast_to env at inner t allocates a =
+    if is_integer t then and_then (integer env inner at a) (λ v. Ok (Valued t (converted_to env t v)))
+    else (if allocates then and_then (pointer env inner at a) (λ v. if same_ctype v.ty t then Ok a else fault (BadType at))
     else fault (BadType at))
+
+-- a cast to a type name
+abbrev pub cast : Environment → ℕ → ℕ → TypeName → Bool → Operand → Checked Operand
+cast env at inner t allocates a = cast_to env at inner (named_type env t) allocates a
 
 -- ---- calls
 
@@ -111,11 +117,17 @@ abbrev pub struct_place : Base → ℕ → ℕ
 struct_place (base.Struct n) at = n.at
 struct_place _ at = at
 
+abbrev pub of_elements : Environment → TypeName → Bool → Value → Operand
+of_elements env t zeros v = gives env (request.Allocate (env.place (named_type env t)) zeros) (pointer_to (named_type env t)) (one_of v.expression)
+
 -- an allocation of a count of elements of a type name, which has its cells
-abbrev pub allocated : Environment → ℕ → ℕ → TypeName → Bool → Value → Checked Operand
-allocated env up at t zeros v =
-    if is_complete env (named_type env t) then Ok (gives env (request.Allocate (env.place (named_type env t)) zeros) (pointer_to (named_type env t)) (one_of v.expression))
-    else fault (Incomplete (struct_place t.base at))
+abbrev pub allocated : Environment → ℕ → TypeName → Bool → Checked Value → Checked Operand
+allocated env at t zeros count =
+    and_then (both count (holds (is_complete env (named_type env t)) (Incomplete (struct_place t.base at)))) (λ x. Ok (of_elements env t zeros x.0))
+
+-- a count that begins at `own`, of a call at `up`
+abbrev pub counted : Environment → ℕ → ℕ → Checked Operand → Checked Value
+counted env own up x = and_then x (integer env own up)
 
 abbrev pub bytes_allocated : Environment → Value → Operand
 bytes_allocated env v = gives env (request.Allocate (env.place char) false) (pointer_to char) (one_of v.expression)
@@ -135,11 +147,6 @@ abbrev pub called_function : Environment → ℕ → Declared → List Argument 
 called_function env up d args = elim d.number as (λ _. Checked Operand)
     [ None ↦ fault (Unknown up) | (Some f) ↦ and_then (passed env up d.parameters args) (λ es. Ok (result_of f d.result es)) ]
 
-abbrev pub called_outer : Environment → ℕ → Option Outer → List Argument → Checked Operand
-called_outer env up None args = fault (Unknown up)
-called_outer env up (Some (Global g t array)) args = fault (BadType up)
-called_outer env up (Some (Function d)) args = called_function env up d args
-
 abbrev pub callable_outer : ℕ → Option Outer → Checked Declared
 callable_outer at None = fault (Unknown at)
 callable_outer at (Some (Global g t array)) = fault (BadType at)
@@ -150,9 +157,16 @@ abbrev pub callable : Environment → Name → Checked Declared
 callable env n = elim (local_named env.visible n.word) as (λ _. Checked Declared)
     [ (Some x) ↦ fault (BadType n.at) | None ↦ callable_outer n.at (env.outer n.word) ]
 
+-- `free`, of a pointer or null
+abbrev pub releasing : ℕ → Value → Checked Operand
+releasing up v = if is_integer v.ty then fault (BadType up) else Ok (NoResult (Requested request.Release None (one_of v.expression)))
+
+abbrev pub released : Environment → ℕ → Argument → Checked Operand
+released env up x = and_then (and_then x.typed (scalar env x.at up)) (releasing up)
+
 -- a built-in call of typed arguments alone
 abbrev pub plain_builtin : Environment → ℕ → Builtin → List Argument → Checked Operand
-plain_builtin env up builtin.Free (x ∷ []) = and_then (and_then x.typed (scalar env x.at up)) (λ v. if is_integer v.ty then fault (BadType up) else Ok (NoResult (Requested request.Release None (one_of v.expression))))
+plain_builtin env up builtin.Free (x ∷ []) = released env up x
 plain_builtin env up builtin.GetChar [] = Ok (gives env request.GetChar int NoMore)
 plain_builtin env up builtin.PutChar (x ∷ []) = asks_integer env up request.PutChar x
 plain_builtin env up builtin.Puts (x ∷ []) = asks_pointer env up request.Puts char x
@@ -169,11 +183,11 @@ argument a x = record { at = first_token a; typed = x }
 -- the typing of an expression
 abbrev mutual
   pub typing : Environment → Term → Checked Operand
-  typing env (Constant at n) = Ok (number env n)
-  typing env (Character at b) = Ok (Valued int (number_value env int (pos b)))
+  typing env (Constant at n) = number env at n
+  typing env (Character at b) = character env at b
   typing env (Text at bytes) = Ok (string env at)
   typing env (NullTerm at) = Ok Null
-  typing env (Eof at) = Ok (Valued int (number_value env int (negsuc 0)))
+  typing env (Eof at) = Ok (end_of_file env)
   typing env (Named n) = named env n
   typing env (Called n args) = elim (local_named env.visible n.word) as (λ _. Checked Operand) [
     | (Some x) ↦ fault (BadType n.at)
@@ -206,15 +220,15 @@ abbrev mutual
 
   -- a built-in call at `up`, whose arguments are these, as values and as they stand
   pub builtin_call : Environment → ℕ → Builtin → List Argument → Terms → Checked Operand
-  builtin_call env up builtin.Malloc values (MoreTerms (SizeOf at t) Nothing) = allocated env up at t false (one env)
+  builtin_call env up builtin.Malloc values (MoreTerms (SizeOf at t) Nothing) = allocated env at t false (Ok (one env))
   builtin_call env up builtin.Malloc values (MoreTerms (OperatedTerm binary.Multiply e (SizeOf at t)) Nothing) =
-      and_then (typing env e) (λ x. and_then (integer env (first_token e) up x) (λ v. allocated env up at t false v))
+      allocated env at t false (counted env (first_token e) up (typing env e))
   builtin_call env up builtin.Malloc values (MoreTerms (OperatedTerm binary.Multiply (SizeOf at t) e) Nothing) =
-      and_then (typing env e) (λ x. and_then (integer env (first_token e) up x) (λ v. allocated env up at t false v))
+      allocated env at t false (counted env (first_token e) up (typing env e))
   builtin_call env up builtin.Malloc values (MoreTerms e Nothing) =
-      and_then (typing env e) (λ x. and_then (integer env (first_token e) up x) (λ v. Ok (bytes_allocated env v)))
+      and_then (counted env (first_token e) up (typing env e)) (λ v. Ok (bytes_allocated env v))
   builtin_call env up builtin.Calloc values (MoreTerms e (MoreTerms (SizeOf at t) Nothing)) =
-      and_then (typing env e) (λ x. and_then (integer env (first_token e) up x) (λ v. allocated env up at t true v))
+      allocated env at t true (counted env (first_token e) up (typing env e))
   builtin_call env up builtin.Printf values (MoreTerms (Text at bytes) args) = printed env up bytes (typing_all env args)
   builtin_call env up builtin.InitMutex values (MoreTerms p (MoreTerms (NullTerm at) Nothing)) =
       asks_pointer env up request.InitMutex mutex (argument p (typing env p))
@@ -224,3 +238,20 @@ abbrev mutual
   builtin_call env up builtin.MigrateLocal values (MoreTerms (Named n) Nothing) = migrated env up n
   builtin_call env up builtin.MigrateLocal values (MoreTerms e Nothing) = fault (Note up)
   builtin_call env up b values args = plain_builtin env up b values
+
+-- ---- parts of calls
+
+-- a call of a name that no local has
+abbrev pub called_unhidden : Environment → Name → Terms → Checked Operand
+called_unhidden env n args = elim (builtin_named n.word) as (λ _. Checked Operand) [
+  | None ↦ and_then (callable env n) (λ d. called_function env n.at d (typing_all env args))
+  | (Some b) ↦ builtin_call env n.at b (typing_all env args) args
+]
+
+abbrev pub is_malloc : Option Builtin → Bool
+is_malloc (Some builtin.Malloc) = true
+is_malloc _ = false
+
+-- the name is that of `malloc`, and no local hides it
+abbrev pub takes_memory : Environment → Name → Bool
+takes_memory env n = elim (local_named env.visible n.word) as (λ _. Bool) [ None ↦ is_malloc (builtin_named n.word) | (Some x) ↦ false ]

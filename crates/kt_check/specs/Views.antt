@@ -1,5 +1,5 @@
 -- What the code's environments, operands and values stand for.
-use Rattle.std.specs.Prelude.{ℕ, Bool, true, false, List, [], ◌∷◌, ◌++◌, map}
+use Rattle.std.specs.Prelude.{ℕ, ◌==◌, Bool, true, false, List, [], ◌∷◌, ◌++◌, map, Option, Some, None}
 use Rattle.std.specs.Option.{option_map}
 use Rattle.std.specs.Map.{lookup}
 use Rattle.std.specs.Str.{bytes_eq}
@@ -41,6 +41,12 @@ values_of v = (value_of v.0, value_of v.1)
 abbrev pub choice_of : ValueCode × (ValueCode × ValueCode) → Value × (Value × Value)
 choice_of v = (value_of v.0, values_of v.1)
 
+abbrev pub operands_of : OperandCode × OperandCode → Operand × Operand
+operands_of x = (operand_of x.0, operand_of x.1)
+
+abbrev pub three_of : OperandCode × (OperandCode × OperandCode) → Operand × (Operand × Operand)
+three_of x = (operand_of x.0, operands_of x.1)
+
 abbrev pub combined_of : CombinedCode → Combined
 combined_of c = record { operation = c.operation; own = c.own }
 
@@ -74,7 +80,11 @@ outer_of (outer.Global n t array) = Global n t array
 outer_of (outer.Function f) = Function (declared_of f)
 
 abbrev pub visible_of : VisibleCode → Visible
-visible_of v = record { name = v.name.now; local = v.local }
+visible_of v = record { name = v.name.items; local = v.local }
+
+abbrev pub literal_at : Option ℕ → ℕ
+literal_at None = 0
+literal_at (Some n) = n
 
 abbrev pub environment_of : EnvironmentCode → Environment
 environment_of e = record {
@@ -82,7 +92,7 @@ environment_of e = record {
   place = place_in e.types.now.types.keys;
   structs = map struct_of (latest_first e.structs.now.entries);
   outer = λ name. option_map outer_of (lookup (λ k. bytes_eq name k.items) e.outer.now.entries);
-  literals = e.literals.now.keys;
+  literal = λ at. literal_at (lookup (λ k. at == k) e.literals.now.entries);
   points = map (λ n. n.items) e.points.now.keys;
   locals = e.locals.now;
   noted = e.noted;

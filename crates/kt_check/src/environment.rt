@@ -12,6 +12,7 @@ use indexmap::{IndexMap, IndexSet};
 use std::alloc::Global;
 
 /// What the names of a file stand for.
+#[derive(Drop)]
 pub(crate) struct Environment<'f> {
     pub alloc: Global,
     /// The names of all structs of the file.
@@ -20,15 +21,15 @@ pub(crate) struct Environment<'f> {
     /// The structs that are defined before here, by their numbers.
     pub structs: &'f IndexMap<u32, StructInfo>,
     pub outer: &'f IndexMap<Vec<u8>, Outer>,
-    /// The places of all literals in the file, in order.
-    pub literals: &'f IndexSet<u32>,
+    /// The numbers of literals by their places in the file.
+    pub literals: &'f IndexMap<u32, u32>,
     /// The names of points, the update points first.
     pub points: &'f IndexSet<Vec<u8>>,
     /// The type of each local of the function, and whether the function has `E_NOTELOCALS`.
     pub locals: &'f [CType],
     pub noted: bool,
     /// The locals in scope, the innermost last.
-    pub visible: &'f [Visible<'f>],
+    pub visible: &'f [Visible],
 }
 
 impl StructInfo {
@@ -72,7 +73,7 @@ impl Environment<'_> {
     }
 
     /// The struct of this number, where it is defined before here.
-    fn struct_numbered(&self, number: u32) -> Option<(u32, &StructInfo)>
+    pub(crate) fn struct_numbered(&self, number: u32) -> Option<(u32, &StructInfo)>
         ensures { option_map (λ p. struct_of (p.0, p.1.now)) result ≡ struct_numbered (environment_of self.now).structs number }
     {
         match self.structs.get_index_of(&number) {
@@ -108,8 +109,8 @@ impl Environment<'_> {
         let mut rest = self.visible.len();
         while rest > 0 {
             rest -= 1;
-            let visible = self.visible[rest];
-            if visible.name == name {
+            let visible = &self.visible[rest];
+            if visible.is_named(name) {
                 return Some(visible.local);
             }
         }

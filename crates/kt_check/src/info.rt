@@ -1,9 +1,11 @@
 //! What a file declares: its structs, its globals and functions, and the names that are in scope.
 
-ghost use Rattle.std.specs.Prelude.{◌<◌, ◌^◌, length};
+ghost use Rattle.std.specs.Prelude.{◌<◌, ◌≤◌, ◌^◌, length};
 
 use crate::ctype::CType;
 use indexmap::IndexMap;
+use kt_grammar::Base;
+use kt_syntax::Pointer;
 
 /// What a field is: its type, of an array that of its elements.
 #[derive(Clone, Copy, Debug)]
@@ -45,8 +47,36 @@ pub(crate) enum Outer {
 }
 
 /// A name that is in scope, and the number of its local.
-#[derive(Clone, Copy, Debug)]
-pub(crate) struct Visible<'f> {
-    pub name: &'f [u8],
+#[derive(Debug, Drop)]
+pub(crate) struct Visible {
+    pub name: Vec<u8>,
     pub local: u32,
+}
+
+/// A local of a function, as it is declared.
+#[derive(Clone, Copy)]
+pub(crate) struct LocalInfo<'f> {
+    pub name: &'f [u8],
+    pub ty: CType,
+    pub base: &'f Base,
+    pub pointer: &'f Option<Pointer>,
+}
+
+/// What the body of a function needs of the function: its locals and their types, in the order of their declarations, its
+/// result, and whether it has `E_NOTELOCALS`.
+#[derive(Drop)]
+pub(crate) struct FunctionInfo<'f> {
+    pub locals: Vec<LocalInfo<'f>>,
+    pub types: Vec<CType>,
+    pub result: Option<CType>,
+    pub noted: bool,
+}
+
+/// The names in scope, the innermost last; where those of the innermost scope begin; and how many locals were declared.
+#[derive(Drop)]
+pub(crate) struct Scopes {
+    pub visible: Vec<Visible>,
+    pub start: usize,
+    pub next: u32,
+    ghost within: { start ≤ length visible.items },
 }

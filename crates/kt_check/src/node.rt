@@ -79,6 +79,14 @@ pub(crate) fn requested_of(
     Ok(Expr::Request(request, ty, operands))
 }
 
+/// A request of these operands.
+#[tactic(auto, using(crate::proofs::Nodes::nodes))]
+pub(crate) fn requested_with(request: Request, ty: Option<u32>, operands: Items<Expr>) -> Expr
+    ensures { expression_of result ≡ Requested request ty (expressions_of (map expression_of operands)) }
+{
+    Expr::Request(request, ty, operands)
+}
+
 /// The load of the cell of a type at a pointer.
 #[tactic(auto, using(crate::proofs::Nodes::nodes))]
 pub(crate) fn loaded(alloc: Global, ty: u32, pointer: Expr) -> Result<Expr, AllocError>

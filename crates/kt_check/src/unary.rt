@@ -23,22 +23,26 @@ use kt_grammar::{BinaryOperator, PrefixOperator};
 use kt_lex::Number;
 use kt_tree::{Expr, Operation};
 
-/// The type of a number.
+/// The type of a number: an `int` has no suffix and is at most 2,147,483,647.
 fn number_type(n: Number) -> CType
     ensures { result ≡ number_type n }
 {
-    if n.long { CType::long() } else { CType::int() }
+    if n.long || n.value > 2_147_483_647 {
+        CType::long()
+    } else {
+        CType::int()
+    }
 }
 
-/// A number; the one spelled `0` converts to pointers. There is no memory for one that a `long` can't hold.
-pub(crate) fn number(env: &Environment<'_>, n: Number) -> Result<Operand, CheckFault>
-    ensures { Judges operand_of result (Ok (number (environment_of env.now) n)) }
+/// A number; the one spelled `0` converts to pointers.
+pub(crate) fn number(env: &Environment<'_>, at: u32, n: Number) -> Result<Operand, CheckFault>
+    ensures { Judges operand_of result (number (environment_of env.now) at n) }
 {
     if n.value == 0 && !n.long && !n.hexadecimal {
         return Ok(Operand::Zero);
     }
     if n.value > i64::MAX as u64 {
-        return Err(CheckFault::NoMemory);
+        return Err(CheckFault::BadType { at });
     }
     let t = number_type(n);
     Ok(Operand::Valued(t, number_value(env, t, n.value as i64)))

@@ -3,20 +3,20 @@ use Rattle.std.proofs.Common.{◌≡◌, ℕ, zero, suc, ◌+◌, ◌-◌, ◌<�
 use Rattle.std.specs.Prelude.{slice_get}
 use Rattle.std.proofs.Math.Seq.{get_or-append_seam}
 use Rattle.std.proofs.lemmas.Option.{slice_get-get_or, slice_get_past}
-use Rattle.kt_meaning.specs.declared.acts.Act.{Act}
-use Rattle.kt_meaning.specs.declared.acts.Act.TheVariants.{Tick}
-use Rattle.kt_meaning.specs.declared.acts.Reply.{Reply}
-use Rattle.kt_meaning.specs.declared.acts.Trap.{Trap}
-use Rattle.kt_meaning.specs.declared.tree.Operand.{Operand}
-use Rattle.kt_meaning.specs.declared.tree.Operand.TheVariants.{Number, Character, Global}
-use Rattle.kt_meaning.specs.declared.tree.Expr.{Expr}
-use Rattle.kt_meaning.specs.declared.tree.Expr.TheVariants.{Single, Binary}
-use Rattle.kt_meaning.specs.Tree.{Statement, Assigning, Putting, Returning, Choosing, Looping, Reaching, Migrating, Block, Empty, Then}
-use Rattle.kt_meaning.specs.Operators.{apply, is_zero}
-use Rattle.kt_meaning.specs.Steps.{Quiet, Acts, AgreeFor, DoesSameActs}
-use Rattle.kt_meaning.specs.Agreement.{agree-left, agree-right, agree-acts, agree-traps, agree-ends}
-use Rattle.kt_meaning.specs.Thread.{Work, Run, Do, Eval, Have, Right, Left, Assigns, Puts, Returns, Chooses, Loops, value_of, with_result, step, settle, entry}
-use Rattle.kt_meaning.specs.TreeSettling.{settle-quiet, settle-acts, settle-traps, settle-ends}
+use Rattle.kt_small.specs.declared.acts.Act.{Act}
+use Rattle.kt_small.specs.declared.acts.Act.TheVariants.{Tick}
+use Rattle.kt_small.specs.declared.acts.Reply.{Reply}
+use Rattle.kt_small.specs.declared.acts.Trap.{Trap}
+use Rattle.kt_small.specs.declared.tree.Operand.{Operand}
+use Rattle.kt_small.specs.declared.tree.Operand.TheVariants.{Number, Character, Global}
+use Rattle.kt_small.specs.declared.tree.Expr.{Expr}
+use Rattle.kt_small.specs.declared.tree.Expr.TheVariants.{Single, Binary}
+use Rattle.kt_small.specs.Tree.{Statement, Assigning, Putting, Returning, Choosing, Looping, Reaching, Migrating, Block, Empty, Then}
+use Rattle.kt_small.specs.Operators.{apply, is_zero}
+use Rattle.kt_small.specs.Steps.{Quiet, Acts, AgreeFor, DoesSameActs}
+use Rattle.kt_small.specs.Agreement.{agree-left, agree-right, agree-acts, agree-traps, agree-ends}
+use Rattle.kt_small.specs.Thread.{Work, Run, Do, Eval, Have, Right, Left, Assigns, Puts, Returns, Chooses, Loops, value_of, with_result, step, settle, entry}
+use Rattle.kt_small.specs.TreeSettling.{settle-quiet, settle-acts, settle-traps, settle-ends}
 use Rattle.kt_codegen.specs.declared.instr.Instr.{Instr}
 use Rattle.kt_codegen.specs.declared.instr.Instr.TheVariants.{Operate, StoreGlobal, PutByte, ReturnTop, Skip, SkipIfZero, TickBack, Reach, Migrate}
 use Rattle.kt_codegen.specs.Machine.{State, state_at, start, result_step, instr_step, machine_step, machine_settle}

@@ -1,6 +1,6 @@
 -- A thread whose step is not quiet has settled.
 use Rattle.std.proofs.Common.{◌≡◌, List, Some, refl, arith}
-use Rattle.kt_meaning.specs.Steps.{Step, Quiet, Acts, Traps, Ends}
+use Rattle.kt_small.specs.Steps.{Step, Quiet, Acts, Traps, Ends}
 use Rattle.kt_codegen.specs.declared.instr.Instr.{Instr}
 use Rattle.kt_codegen.specs.declared.run.Head.{Head}
 use Rattle.kt_codegen.specs.Machine.{State, machine_step, machine_settle}

@@ -1,10 +1,10 @@
 -- The instructions of a program.
 use Rattle.std.specs.Prelude.{◌+◌, pos, List, [], ◌∷◌, ◌++◌, length}
-use Rattle.kt_meaning.specs.declared.tree.Operand.{Operand}
-use Rattle.kt_meaning.specs.declared.tree.Operand.TheVariants.{Number, Character, Global}
-use Rattle.kt_meaning.specs.declared.tree.Expr.{Expr}
-use Rattle.kt_meaning.specs.declared.tree.Expr.TheVariants.{Single, Binary}
-use Rattle.kt_meaning.specs.Tree.{Statement, Assigning, Putting, Returning, Choosing, Looping, Reaching, Migrating, Block, Empty, Then}
+use Rattle.kt_small.specs.declared.tree.Operand.{Operand}
+use Rattle.kt_small.specs.declared.tree.Operand.TheVariants.{Number, Character, Global}
+use Rattle.kt_small.specs.declared.tree.Expr.{Expr}
+use Rattle.kt_small.specs.declared.tree.Expr.TheVariants.{Single, Binary}
+use Rattle.kt_small.specs.Tree.{Statement, Assigning, Putting, Returning, Choosing, Looping, Reaching, Migrating, Block, Empty, Then}
 use Rattle.kt_codegen.specs.declared.instr.Instr.{Instr}
 use Rattle.kt_codegen.specs.declared.instr.Instr.TheVariants.{Push, LoadGlobal, StoreGlobal, PutByte, Operate, ReturnTop, Skip, SkipIfZero, TickBack, Reach, Migrate}
 

@@ -1,8 +1,8 @@
 -- What heads tell of threads that do the same acts.
 use Rattle.std.specs.Prelude.{◌≡◌, suc, Some}
 use Rattle.std.proofs.Common.{arith, sym, ap, subst}
-use Rattle.kt_meaning.specs.declared.acts.Reply.{Reply}
-use Rattle.kt_meaning.specs.Steps.{Step, Quiet, Acts, Traps, Ends, SameHead, AgreeFor, DoesSameActs}
+use Rattle.kt_small.specs.declared.acts.Reply.{Reply}
+use Rattle.kt_small.specs.Steps.{Step, Quiet, Acts, Traps, Ends, SameHead, AgreeFor, DoesSameActs}
 use Rattle.kt_codegen.specs.declared.run.Head.TheVariants.{Act, Trap, End}
 use Rattle.kt_codegen.specs.Heads.{head_of, IsAct, GoesOn}
 

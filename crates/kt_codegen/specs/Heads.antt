@@ -1,7 +1,7 @@
 -- What a thread does next, as it is told, and how it goes on.
 use Rattle.std.specs.Prelude.{◌≡◌, Option, Some, None}
-use Rattle.kt_meaning.specs.declared.acts.Reply.{Reply}
-use Rattle.kt_meaning.specs.Steps.{Step, Quiet, Acts, Traps, Ends}
+use Rattle.kt_small.specs.declared.acts.Reply.{Reply}
+use Rattle.kt_small.specs.Steps.{Step, Quiet, Acts, Traps, Ends}
 use Rattle.kt_codegen.specs.declared.run.Head.{Head}
 use Rattle.kt_codegen.specs.declared.run.Head.TheVariants.{Act, Trap, End}
 

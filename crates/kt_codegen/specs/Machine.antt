@@ -1,10 +1,10 @@
 -- The machine: the state of a private thread, and its steps, one equation an instruction.
 use Rattle.std.specs.Prelude.{ℕ, ◌+◌, ◌-◌, ℤ, pos, List, [], ◌∷◌, length, Option, Some, None, if◌then◌else◌, Result, Ok, Err, slice_get}
-use Rattle.kt_meaning.specs.declared.acts.Act.TheVariants.{Tick, Load, Store, Print, Point, Automigrate}
-use Rattle.kt_meaning.specs.declared.acts.Trap.{Trap}
-use Rattle.kt_meaning.specs.Operators.{apply, is_zero, byte_of}
-use Rattle.kt_meaning.specs.Steps.{Step, Quiet, Acts, Traps, Ends, settle_by}
-use Rattle.kt_meaning.specs.Thread.{value_of}
+use Rattle.kt_small.specs.declared.acts.Act.TheVariants.{Tick, Load, Store, Print, Point, Automigrate}
+use Rattle.kt_small.specs.declared.acts.Trap.{Trap}
+use Rattle.kt_small.specs.Operators.{apply, is_zero, byte_of}
+use Rattle.kt_small.specs.Steps.{Step, Quiet, Acts, Traps, Ends, settle_by}
+use Rattle.kt_small.specs.Thread.{value_of}
 use Rattle.kt_codegen.specs.declared.instr.Instr.{Instr}
 use Rattle.kt_codegen.specs.declared.instr.Instr.TheVariants.{Push, LoadGlobal, StoreGlobal, PutByte, Operate, ReturnTop, Skip, SkipIfZero, TickBack, Reach, Migrate}
 

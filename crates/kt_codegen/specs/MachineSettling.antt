@@ -2,12 +2,12 @@
 use Rattle.std.specs.Prelude.{◌≡◌, ℕ, ◌+◌, ◌-◌, ◌<◌, ◌≤◌, ℤ, List, length, Bool, true, false, if◌then◌else◌, Result, Ok, Err, Option, Some, None, slice_get}
 use Rattle.std.proofs.Common.{arith, subst, refl}
 use Rattle.std.proofs.lemmas.Option.{slice_get_within}
-use Rattle.kt_meaning.specs.declared.acts.Act.{Act}
-use Rattle.kt_meaning.specs.declared.acts.Reply.{Reply}
-use Rattle.kt_meaning.specs.declared.acts.Trap.{Trap}
-use Rattle.kt_meaning.specs.Operators.{apply, is_zero}
-use Rattle.kt_meaning.specs.Steps.{Step, Quiet, Acts, Traps, Ends, IsLowering, Settles}
-use Rattle.kt_meaning.specs.Settling.{settle_by-quiet, settle_by-acts, settle_by-traps, settle_by-ends, settle_within-settles}
+use Rattle.kt_small.specs.declared.acts.Act.{Act}
+use Rattle.kt_small.specs.declared.acts.Reply.{Reply}
+use Rattle.kt_small.specs.declared.acts.Trap.{Trap}
+use Rattle.kt_small.specs.Operators.{apply, is_zero}
+use Rattle.kt_small.specs.Steps.{Step, Quiet, Acts, Traps, Ends, IsLowering, Settles}
+use Rattle.kt_small.specs.Settling.{settle_by-quiet, settle_by-acts, settle_by-traps, settle_by-ends, settle_within-settles}
 use Rattle.kt_codegen.specs.declared.instr.Instr.{Instr}
 use Rattle.kt_codegen.specs.declared.instr.Instr.TheVariants.{Push, LoadGlobal, StoreGlobal, PutByte, Operate, ReturnTop, Skip, SkipIfZero, TickBack, Reach, Migrate}
 use Rattle.kt_codegen.specs.Machine.{State, state_at, topmost, without_top, result_step, instr_step, machine_step, room, machine_settle}

@@ -1,11 +1,11 @@
 // Arithmetic of `int` on the numbers of the machine.
 
 ghost use Rattle.std.specs.Prelude.{◌≡◌};
-ghost use Rattle.kt_meaning.specs.Operators as int;
-ghost use Rattle.kt_meaning.specs.Thread as thread;
+ghost use Rattle.kt_small.specs.Operators as int;
+ghost use Rattle.kt_small.specs.Thread as thread;
 
-use kt_meaning::acts::{Reply, Trap};
-use kt_meaning::tree::Operator;
+use kt_small::acts::{Reply, Trap};
+use kt_small::tree::Operator;
 
 /// What an operator gives for its two operands, or its trap.
 pub(crate) fn apply(operator: Operator, left: i32, right: i32) -> Result<i32, Trap>

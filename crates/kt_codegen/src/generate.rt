@@ -1,15 +1,15 @@
 // From the tree of a program to its instructions.
 
 ghost use Rattle.std.specs.Prelude.{◌≡◌, ◌+◌, ◌<◌, ◌++◌, IfOk, OnOk};
-ghost use Rattle.kt_meaning.specs.Steps.{DoesSameActs};
-ghost use Rattle.kt_meaning.specs.Thread.{settle, entry};
-ghost use Rattle.kt_meaning.specs.Tree.{block_of, statement_of};
+ghost use Rattle.kt_small.specs.Steps.{DoesSameActs};
+ghost use Rattle.kt_small.specs.Thread.{settle, entry};
+ghost use Rattle.kt_small.specs.Tree.{block_of, statement_of};
 ghost use Rattle.kt_codegen.specs.Machine.{machine_settle, start};
 ghost use Rattle.kt_codegen.specs.Code.{operand_code, expr_code, statement_code, block_code};
 
 use crate::code::Code;
 use crate::instr::Instr;
-use kt_meaning::tree::{Expr, Operand, Program, Stmt};
+use kt_small::tree::{Expr, Operand, Program, Stmt};
 use std::alloc::{AllocError, Global};
 
 /// The instructions of a program: they do the acts that its tree does.

@@ -1,6 +1,6 @@
 // The instructions of the machine.
 
-use kt_meaning::tree::Operator;
+use kt_small::tree::Operator;
 
 /// One instruction. Values come from the operands and go onto them, topmost first. A jump is an offset: how many
 /// instructions it passes, or goes back.

@@ -1,7 +1,7 @@
 // A law of the definitions, the contract of a function that does nothing.
 
 ghost use Rattle.std.specs.Prelude.{List};
-ghost use Rattle.kt_meaning.specs.Steps.{Settles};
+ghost use Rattle.kt_small.specs.Steps.{Settles};
 ghost use Rattle.kt_codegen.specs.declared.instr.Instr.{Instr};
 ghost use Rattle.kt_codegen.specs.Machine.{State, machine_step, machine_settle};
 

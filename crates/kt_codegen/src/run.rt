@@ -4,8 +4,8 @@ use crate::arithmetic::{apply, is_zero, low_byte, value_of};
 use crate::code::Code;
 use crate::instr::Instr;
 use crate::operands::Operands;
-use kt_meaning::acts::{Act, Reply, Trap};
-use kt_meaning::tree::Operator;
+use kt_small::acts::{Act, Reply, Trap};
+use kt_small::tree::Operator;
 use std::alloc::{AllocError, Global};
 use std::marker::Model;
 
@@ -36,8 +36,8 @@ impl Model for Thread {
 
 impl Thread {
     ghost use Rattle.std.specs.Prelude.{◌≡◌, ◌<◌, ◌+◌, ◌-◌, ◌^◌, ◌∷◌, ℕ, Some, IfOk, OnOk};
-    ghost use Rattle.kt_meaning.specs.Operators as int;
-    ghost use Rattle.kt_meaning.specs.Steps.{Quiet};
+    ghost use Rattle.kt_small.specs.Operators as int;
+    ghost use Rattle.kt_small.specs.Steps.{Quiet};
     ghost use Rattle.kt_codegen.specs.Machine.{state_at, start, topmost, without_top, result_step, instr_step, machine_step, machine_settle};
     ghost use Rattle.kt_codegen.specs.Heads.{head_of, IsAct, GoesOn, IsOneStep};
 

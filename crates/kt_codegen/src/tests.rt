@@ -2,8 +2,8 @@
 
 use crate::generate::compile;
 use crate::run::{Head, Thread};
-use kt_meaning::acts::{Act, Reply, Trap};
-use kt_meaning::tree::{Expr, Operand, Operator, Program, Stmt};
+use kt_small::acts::{Act, Reply, Trap};
+use kt_small::tree::{Expr, Operand, Operator, Program, Stmt};
 use sqlite_items::Items;
 use std::alloc::{AllocError, Global};
 use std::process::Abort;

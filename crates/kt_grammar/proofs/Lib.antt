@@ -13,3 +13,4 @@ pub mod Postfixes
 pub mod Depths
 pub mod Loops
 pub mod Words
+mod Known

@@ -17,7 +17,8 @@ use Rattle.kt_grammar.specs.Spelling.{between, bare_base, spells_base, spells_ty
 use Rattle.kt_grammar.specs.Cursor.{◌>>=◌, Outcome, unexpected, begins_sign, behind, name_at, listed_at}
 use Rattle.kt_grammar.specs.Reading.{behind_const, bare_base_at, base_at, type_at, between_at}
 use Rattle.kt_grammar.specs.Laws.{Stands, IsFaultAt, FaultStands}
-use Rattle.kt_grammar.specs.StandsLaws.{chosen, symbols_of_joined, shallow_joined, stands_as, keyword_stands, begins_sign_stands, behind_stands, type_at_stands, listed}
+use Rattle.kt_grammar.specs.CutLaws.{symbols_of-append, shallow-append}
+use Rattle.kt_grammar.specs.StandsLaws.{chosen, stands_as, keyword_stands, begins_sign_stands, behind_stands, type_at_stands, listed}
 
 -- ---- results
 
@@ -99,8 +100,8 @@ fault_behind {limit} a b = record {
   parts =
       a.parts ∙ ap (λ (r : List Symbol). symbols_of a.marks ++ r) b.parts
       ∙ sym (append_assoc (symbols_of a.marks) (symbols_of b.marks) b.rest)
-      ∙ ap (λ (s : List Symbol). s ++ b.rest) (sym (symbols_of_joined a.marks b.marks));
-  shallow = shallow_joined limit a.marks b.marks a.shallow b.shallow;
+      ∙ ap (λ (s : List Symbol). s ++ b.rest) (sym (symbols_of-append a.marks b.marks));
+  shallow = shallow-append limit a.marks b.marks a.shallow b.shallow;
   begins = record { front = a.marks; back = b.marks ++ b.others; parts = append_assoc a.marks b.marks b.others; first = a.spelled; second = b.begins };
   is_fault = b.is_fault;
 }

@@ -1,5 +1,6 @@
 pub mod Identifiers
 pub mod Symbols
+pub mod Known
 pub mod Tree
 pub mod Signs
 pub mod Marks

@@ -17,6 +17,7 @@ use Rattle.kt_grammar.specs.Marks.{Mark, symbols_of, IsShallow, nothing, token, 
 use Rattle.kt_grammar.specs.Spelling.{between, bare_base, spells_base, spells_type}
 use Rattle.kt_grammar.specs.Cursor.{◌>>=◌, Outcome, begins_sign, behind, name_at, count_sign, listed_at}
 use Rattle.kt_grammar.specs.Reading.{behind_const, bare_base_at, base_at, type_at, between_at}
+use Rattle.kt_grammar.specs.CutLaws.{symbols_of-append, shallow-append}
 use Rattle.kt_grammar.specs.Laws.{Stands}
 
 -- ---- results
@@ -98,16 +99,6 @@ same_sign_is a b e = sym (sign_of-number a) ∙ ap sign_of (eqb-true (sign_numbe
 
 -- ---- marks
 
--- the symbols of joined marks
-pub symbols_of_joined : (front back : List Mark) → symbols_of (front ++ back) ≡ symbols_of front ++ symbols_of back
-symbols_of_joined [] back = refl
-symbols_of_joined (m ∷ front) back = ap (λ (s : List Symbol). m.symbol ∷ s) (symbols_of_joined front back)
-
--- joined marks are as shallow as their parts
-pub shallow_joined : (limit : ℕ) (front back : List Mark) → IsShallow limit front → IsShallow limit back → IsShallow limit (front ++ back)
-shallow_joined limit [] back f b = b
-shallow_joined limit (m ∷ front) back f b = (f.0, shallow_joined limit front back f.1 b)
-
 -- marks within a limit are within a greater one
 pub shallow_within : (limit more : ℕ) (marks : List Mark) → limit ≤ more → IsShallow limit marks → IsShallow more marks
 shallow_within limit more [] h s = tt
@@ -130,9 +121,9 @@ stands_joined {limit} {A} {B} {symbols} {middle} {rest} a b = record {
   parts =
       a.parts ∙ ap (λ (r : List Symbol). symbols_of a.marks ++ r) b.parts
       ∙ sym (append_assoc (symbols_of a.marks) (symbols_of b.marks) rest)
-      ∙ ap (λ (s : List Symbol). s ++ rest) (sym (symbols_of_joined a.marks b.marks));
+      ∙ ap (λ (s : List Symbol). s ++ rest) (sym (symbols_of-append a.marks b.marks));
   spelled = record { front = a.marks; back = b.marks; parts = refl; first = a.spelled; second = b.spelled };
-  shallow = shallow_joined limit a.marks b.marks a.shallow b.shallow;
+  shallow = shallow-append limit a.marks b.marks a.shallow b.shallow;
 }
 
 -- what spells the one spells the other

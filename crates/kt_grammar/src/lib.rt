@@ -27,7 +27,7 @@ mod word;
 pub use cursor::{begins_sign, behind, behind_first, count_sign, name};
 pub use fault::Fault;
 pub use keyword::{Keyword, RuleWord};
-pub use laws::expr_laws;
+pub use laws::{expr_laws, symbols_law};
 pub use levels::{begins_expr, expr, stuck};
 pub use local::expr_local_law;
 pub use operator::{AssignOperator, BinaryOperator, Dialect, PrefixOperator, StepOperator};

@@ -1,4 +1,4 @@
-ghost use Rattle.std.specs.Prelude.{◌≡◌, if◌then◌else◌};
+ghost use Rattle.std.specs.Prelude.{◌≡◌, true, if◌then◌else◌};
 ghost use Rattle.kt_grammar.specs.Identifiers.{is_identifier};
 
 use super::spelled::is_identifier;
@@ -39,7 +39,8 @@ impl Word {
 
     /// Its bytes.
     pub fn as_bytes(&self) -> &[u8]
-        ensures { result.now ≡ self.now }
+        ensures bytes { result.now ≡ self.now }
+        ensures identifier { is_identifier self.now ≡ true }
     {
         self.bytes.as_slice()
     }

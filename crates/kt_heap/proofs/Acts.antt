@@ -9,10 +9,9 @@ use Rattle.kt_mem.specs.declared.memory.Name.{Name}
 use Rattle.kt_mem.specs.declared.memory.Name.TheVariants.{Heap}
 use Rattle.kt_mem.specs.declared.memory.Value.{Value}
 use Rattle.kt_mem.specs.declared.memory.Value.TheVariants.{Ptr}
-use Rattle.kt_mem.specs.declared.memory.Cell.{Cell}
 use Rattle.kt_mem.specs.declared.steps.Trap.{Trap}
 use Rattle.kt_mem.specs.declared.steps.Trap.TheVariants as trap
-use Rattle.kt_mem.specs.Memory.{Memory, Object, value_in, written, and_then, unless_literal, with_value, store, object_with, without, released, release, fresh_cell, repeated, alloc_fault}
+use Rattle.kt_mem.specs.Memory.{Memory, Object, Cell, value_in, written, and_then, unless_literal, with_value, store, object_with, without, released, release, fresh_cell, repeated, alloc_fault}
 use Rattle.kt_heap.specs.declared.object.Obj.{Obj}
 use Rattle.kt_heap.specs.Objects.{shown, obj_with}
 

@@ -4,8 +4,7 @@ use Rattle.std.specs.Option.{option_map}
 use Rattle.kt_mem.specs.declared.memory.Name.{Name}
 use Rattle.kt_mem.specs.declared.memory.Name.TheVariants.{Glob, Heap}
 use Rattle.kt_mem.specs.declared.memory.Value.TheVariants.{Ptr}
-use Rattle.kt_mem.specs.declared.memory.Cell.{Cell}
-use Rattle.kt_mem.specs.Memory.{Memory, Object, put, value_in, store, object_with}
+use Rattle.kt_mem.specs.Memory.{Memory, Object, Cell, put, value_in, store, object_with}
 use Rattle.kt_heap.specs.declared.object.Obj.{Obj}
 use Rattle.kt_heap.specs.Objects.{shown, obj_with, held, object_in}
 use Rattle.kt_heap.specs.ByAddress.{ByAddress, obj_at, next_address, IsPut}

@@ -1,8 +1,7 @@
 -- Objects of a heap as memory has them, and lists of places that hold an object or none.
 use Rattle.std.specs.Prelude.{ℕ, List, Option, None, Some, slice_get, slice_set}
 use Rattle.std.specs.Option.{option_map, option_flatten}
-use Rattle.kt_mem.specs.declared.memory.Cell.{Cell}
-use Rattle.kt_mem.specs.Memory.{Object}
+use Rattle.kt_mem.specs.Memory.{Object, Cell}
 use Rattle.kt_heap.specs.declared.object.Obj.{Obj}
 
 -- the object as memory has it

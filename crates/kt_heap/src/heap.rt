@@ -164,7 +164,7 @@ impl Heap {
     {
         match p {
             Value::Null => Err(Trap::Null),
-            Value::Ptr(name, offset) => self.store_named(name, offset, Cell { ty, value: v }),
+            Value::Ptr(name, offset) => self.store_named(name, offset, Cell::new(ty, v)),
             _ => Err(Trap::Dead),
         }
     }
@@ -302,7 +302,7 @@ impl Heap {
             Name::Glob(i) => self.globals.store(u64::from(i), offset, cell),
             Name::Lit(v, i) => match self.literals.get(v, i) {
                 None => Err(Trap::Dead),
-                Some(obj) => match obj.value(offset, cell.ty) {
+                Some(obj) => match obj.value(offset, cell.ty()) {
                     Err(trap) => Err(trap),
                     Ok(_) => Err(Trap::Literal),
                 },

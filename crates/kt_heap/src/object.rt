@@ -17,8 +17,8 @@ pub struct Obj {
     pub cells: Cells,
 }
 
-// An enum has a tag of its own in each place, so a cell takes 16 bytes for its type and 32 for its value.
-const _: () = prove!(size_of::<Cell>() <= 48);
+// So the 4,194,304 heap cells that may live take 128 MiB.
+const _: () = prove!(size_of::<Cell>() <= 32);
 
 impl Obj {
     /// What the cell at an offset holds: `bounds` past the object, and at a cell of another type.
@@ -28,8 +28,8 @@ impl Obj {
         match self.cells.as_slice().get(offset as usize) {
             None => Err(Trap::Bounds),
             Some(cell) => {
-                if cell.ty == ty {
-                    Ok(cell.value)
+                if cell.ty() == ty {
+                    Ok(cell.value())
                 } else {
                     Err(Trap::Bounds)
                 }
@@ -69,10 +69,8 @@ fn zero_value(ty: Ty) -> Value
 fn fresh_cell(ty: Ty, zero: bool) -> Cell
     ensures { result ≡ fresh_cell zero ty }
 {
-    Cell {
-        ty,
-        value: if zero { zero_value(ty) } else { Value::Undef },
-    }
+    let value = if zero { zero_value(ty) } else { Value::Undef };
+    Cell::new(ty, value)
 }
 
 /// The cells of so many new elements, where an element has cells of these types.

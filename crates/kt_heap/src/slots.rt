@@ -133,7 +133,7 @@ fn store_in(slot: &mut Option<Obj>, offset: u32, cell: Cell) -> Result<(), Trap>
 {
     match slot.as_ref() {
         None => return Err(Trap::Dead),
-        Some(obj) => obj.value(offset, cell.ty)?,
+        Some(obj) => obj.value(offset, cell.ty())?,
     };
     match slot.take() {
         None => Err(Trap::Dead),

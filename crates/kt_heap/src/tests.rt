@@ -17,10 +17,7 @@ fn heap_at(a: u64, offset: u32) -> Value {
 fn object(alloc: Global, serial: u64, cells: &[(Ty, Value)]) -> Result<Obj, AllocError> {
     let mut items = Vec::new(alloc);
     for (ty, value) in cells {
-        items.push(Cell {
-            ty: *ty,
-            value: *value,
-        })?;
+        items.push(Cell::new(*ty, *value))?;
     }
     Ok(Obj {
         ty: 4,
@@ -217,10 +214,7 @@ fn an_object_is_placed(rt: HostRuntime) -> Result<(), Fail> {
     let alloc = rt.alloc();
     let mut heap = Heap::new(alloc, 10);
     let mut items = Vec::new(alloc);
-    items.push(Cell {
-        ty: Ty::Long,
-        value: num(3),
-    })?;
+    items.push(Cell::new(Ty::Long, num(3)))?;
     let obj = Obj {
         ty: 2,
         count: 1,

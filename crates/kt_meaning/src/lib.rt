@@ -1,6 +1,15 @@
-//! What a program is, and what its thread does step by step.
+//! What a thread of a version does, step by step: the definitions stand in `specs/`, their laws in `laws`.
+//!
+//! Nothing here runs a program. The types hold a thread of the tree, so that the laws can speak of one.
 #![tactic(auto)]
 
-pub mod acts;
-pub mod laws;
-pub mod tree;
+mod laws;
+mod part;
+mod thread;
+
+pub use laws::{act_law, effect_law, entry_law, order_law, settle_law, worked_programs_law};
+pub use part::{Part, Use, Waiting};
+pub use thread::{Parts, TreeFrame, TreeFrames, TreeThread};
+
+#[cfg(test)]
+mod tests;

@@ -9,11 +9,10 @@ use Rattle.kt_mem.specs.declared.memory.Name.{Name}
 use Rattle.kt_mem.specs.declared.memory.Name.TheVariants.{Glob, Lit, Heap}
 use Rattle.kt_mem.specs.declared.memory.Value.{Value}
 use Rattle.kt_mem.specs.declared.memory.Value.TheVariants.{Num, Null, Ptr, Free, Held, Undef}
-use Rattle.kt_mem.specs.declared.memory.Cell.{Cell}
 use Rattle.kt_mem.specs.declared.steps.Trap.{Trap}
 use Rattle.kt_mem.specs.declared.steps.Trap.TheVariants as trap
 use Rattle.kt_mem.specs.Values.{ty_eq, defined}
-use Rattle.kt_mem.specs.Memory.{Memory, Object, cell_value, value_at, and_then, unless_literal, store, locked, unlocked, initialised, held_by_other, alloc_fault, alloc, released, release}
+use Rattle.kt_mem.specs.Memory.{Memory, Object, Cell, cell_value, value_at, and_then, unless_literal, store, locked, unlocked, initialised, held_by_other, alloc_fault, alloc, released, release}
 use Rattle.kt_mem.specs.Causes.{HasCell, LoadsAnswer, StoresAnswer, AllocsAnswer, ReleasesAnswer, IsHeldBy, LockHolds, UnlockFrees, InitFrees}
 use Rattle.kt_mem.proofs.Names.{ty_eq-refl, ty_eq-true}
 use Rattle.kt_mem.proofs.Places.{value_at-with_same}

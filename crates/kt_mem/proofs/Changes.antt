@@ -8,10 +8,9 @@ use Rattle.kt_mem.specs.declared.memory.Name.{Name}
 use Rattle.kt_mem.specs.declared.memory.Name.TheVariants.{Glob, Lit, Heap}
 use Rattle.kt_mem.specs.declared.memory.Value.{Value}
 use Rattle.kt_mem.specs.declared.memory.Value.TheVariants.{Num, Null, Ptr, Free, Held, Undef}
-use Rattle.kt_mem.specs.declared.memory.Cell.{Cell}
 use Rattle.kt_mem.specs.declared.steps.Trap.{Trap}
 use Rattle.kt_mem.specs.declared.steps.Trap.TheVariants as trap
-use Rattle.kt_mem.specs.Memory.{Memory, Object, value_at, with_value, written, and_then, unless_literal, locked, unlocked, initialised, fresh_cell, repeated, fresh_object, made, alloc_fault, unless_fault, alloc, without, released, release}
+use Rattle.kt_mem.specs.Memory.{Memory, Object, Cell, value_at, with_value, written, and_then, unless_literal, locked, unlocked, initialised, fresh_cell, repeated, fresh_object, made, alloc_fault, unless_fault, alloc, without, released, release}
 use Rattle.kt_mem.specs.Laws.{Effect, Stores, Allocates, Releases, Locks, Unlocks, Inits, effect_on}
 
 -- the ways in which memory changes

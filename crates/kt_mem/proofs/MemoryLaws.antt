@@ -10,11 +10,10 @@ use Rattle.kt_mem.specs.declared.memory.Name.{Name}
 use Rattle.kt_mem.specs.declared.memory.Name.TheVariants.{Glob, Lit, Heap}
 use Rattle.kt_mem.specs.declared.memory.Value.{Value}
 use Rattle.kt_mem.specs.declared.memory.Value.TheVariants.{Num, Null, Ptr, Free, Held, Undef}
-use Rattle.kt_mem.specs.declared.memory.Cell.{Cell}
 use Rattle.kt_mem.specs.declared.steps.Trap.{Trap}
 use Rattle.kt_mem.specs.declared.steps.Trap.TheVariants as trap
 use Rattle.kt_mem.specs.Values.{ty_eq}
-use Rattle.kt_mem.specs.Memory.{Memory, Object, no_objects, put, cell_value, value_in, value_at, object_with, with_value, and_then, unless_literal, store, fresh_object, without}
+use Rattle.kt_mem.specs.Memory.{Memory, Object, Cell, no_objects, put, cell_value, value_in, value_at, object_with, with_value, and_then, unless_literal, store, fresh_object, without}
 use Rattle.kt_mem.specs.Laws.{LoadsWhatWasStored, StoreKeepsOthers, IsDead, ReleaseEnds, ReleaseKeepsOthers, Effect, effect_on, memory_after, AllocTakesNext, NumbersNeverReturn, SameShape, cell_count, cells_below, IsCounted, StartsCounted, StaysCounted, StaysSmall, ShapesStay}
 use Rattle.kt_mem.proofs.Names.{ty_eq-true, same_name, put-same, put-other, put-cases}
 use Rattle.kt_mem.proofs.Places.{value_at-with_same, value_at-with_other}

@@ -6,8 +6,7 @@ use Rattle.kt_types.specs.declared.kinds.Ty.{Ty}
 use Rattle.kt_mem.specs.declared.memory.Name.{Name}
 use Rattle.kt_mem.specs.declared.memory.Value.{Value}
 use Rattle.kt_mem.specs.declared.memory.Value.TheVariants.{Num, Null, Ptr, Free, Held, Undef}
-use Rattle.kt_mem.specs.declared.memory.Cell.{Cell}
-use Rattle.kt_mem.specs.Memory.{Memory, Object, cell_value, value_in, value_at, object_with, with_value}
+use Rattle.kt_mem.specs.Memory.{Memory, Object, Cell, cell_value, value_in, value_at, object_with, with_value}
 use Rattle.kt_mem.proofs.Names.{ty_eq-refl, put-same, put-cases}
 
 -- ---- one list of cells

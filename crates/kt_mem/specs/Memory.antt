@@ -8,12 +8,16 @@ use Rattle.kt_mem.specs.declared.memory.Name.{Name}
 use Rattle.kt_mem.specs.declared.memory.Name.TheVariants.{Lit, Heap}
 use Rattle.kt_mem.specs.declared.memory.Value.{Value}
 use Rattle.kt_mem.specs.declared.memory.Value.TheVariants.{Num, Null, Ptr, Free, Held, Undef}
-use Rattle.kt_mem.specs.declared.memory.Cell.{Cell}
 use Rattle.kt_mem.specs.declared.steps.Trap.{Trap}
 use Rattle.kt_mem.specs.declared.steps.Trap.TheVariants as trap
 use Rattle.kt_mem.specs.Values.{name_eq, ty_eq, defined}
 
 -- ---- objects and memories
+
+-- a scalar cell: its type, which never changes, and what it holds
+pub record Cell : Type 0 where
+  pub ty : Ty
+  pub value : Value
 
 -- an object: its heap number (0 for any other object), its element type, its count of elements, its cells
 pub record Object : Type 0 where

@@ -222,15 +222,32 @@ fn elements(rt: HostRuntime) {
 }
 
 #[test]
+fn cells_keep_values(rt: HostRuntime) {
+    for value in [
+        num(i64::MIN),
+        Value::Null,
+        Value::Ptr(Name::Glob(1), 65_536),
+        Value::Ptr(Name::Lit(2, 3), 4),
+        Value::Ptr(Name::Heap(u64::MAX), u32::MAX),
+        Value::Free,
+        Value::Held(255),
+        Value::Undef,
+    ] {
+        let cell = Cell::new(Ty::Ptr(5), value);
+        assert_eq!(rt; (cell.ty(), cell.value()), (Ty::Ptr(5), value));
+        assert_eq!(rt; cell == Cell::new(Ty::Ptr(5), value), true);
+        assert_eq!(rt; cell == Cell::new(Ty::Long, value), false);
+        assert_eq!(rt; cell == Cell::new(Ty::Ptr(5), num(0)), false);
+    }
+}
+
+#[test]
 fn lists(rt: HostRuntime) -> Result<(), Fail> {
     let alloc = rt.alloc();
     let values = Values::from_vec([num(1), Value::Free].to_vec(alloc)?);
     assert_eq!(rt; values.as_slice().len(), 2);
     assert_eq!(rt; values.clone()?.into_vec().len(), 2);
-    let cell = Cell {
-        ty: Ty::Char,
-        value: Value::Undef,
-    };
+    let cell = Cell::new(Ty::Char, Value::Undef);
     let cells = Cells::from_vec([cell].to_vec(alloc)?);
     assert_eq!(rt; cells.as_slice().len(), 1);
     assert_eq!(rt; cells.clone()?.into_vec().len(), 1);

@@ -1,6 +1,6 @@
 -- From an answer and its cause to each promise of the top call.
-use Rattle.std.specs.Prelude.{◌≡◌, ℕ, zero, suc, ◌⊎◌, ◌↔◌, List, [], ◌∷◌, slice_get, Option, Some, None, IfSome, refl}
-use Rattle.std.proofs.Common.{inl, inr, sym, subst, ap, ◌∙◌}
+use Rattle.std.specs.Prelude.{◌≡◌, ℕ, zero, suc, ◌⊎◌, ◌↔◌, List, [], ◌∷◌, slice_get, take, Option, Some, None, IfSome, refl}
+use Rattle.std.proofs.Common.{inl, inr, sym, subst, ap, ◌∙◌, arith}
 use Rattle.kt_edge.specs.Count.{Rose}
 use Rattle.kt_edge.specs.FileMap.{FileMap, Holds, Tells, Lacks}
 use Rattle.kt_edge.specs.Writes.{Writes, TakesOrFails}
@@ -8,16 +8,17 @@ use Rattle.kt_world.specs.declared.mark.End.{End}
 use Rattle.kt_play.specs.declared.refusal.Refusal.{Refusal}
 use Rattle.kt_play.specs.declared.refusal.Refusal.TheVariants as refusal
 use Rattle.kt_play.specs.declared.status.Cause.{Cause}
-use Rattle.kt_play.specs.declared.status.Cause.TheVariants.{Later}
 use Rattle.kt_play.specs.declared.status.Which.{Which}
 use Rattle.kt_play.specs.declared.status.Which.TheVariants.{File}
 use Rattle.kt_play.specs.declared.status.Status.{Status}
-use Rattle.kt_play.specs.declared.status.Status.TheVariants.{Main, Trap, Budget, Words, ReadFault, Refused, WriteFault, NoMemory}
-use Rattle.kt_play.specs.Answer.{Call, IsAnswer, IsTurnedAway, HasPlayed, HasFailed, IsUnread, IsRefusedFile, EndsOrLacksMemory}
+use Rattle.kt_play.specs.declared.status.Status.TheVariants.{Main, Trap, Budget, Words, ReadFault, TooLong, Refused, WriteFault, NoMemory}
+use Rattle.kt_play.specs.Answer.{Call, IsAnswer, IsTurnedAway, HasPlayed, HasFailed, IsUnread, IsTooLong, IsRefusedFile, EndsOrLacksMemory}
 use Rattle.kt_world.specs.Job.{Job}
-use Rattle.kt_play.specs.Job.{HoldAll, TellAll, IsJobText, IsFirstOutside, IsOutsideOfThree}
+use Rattle.kt_play.specs.Job.{HoldAll, TellAll, IsShort, AreShort, IsJobOf, IsJobText, IsOutside, IsFirstOutside, IsOutsideOfThree, IsFirstLong}
 use Rattle.kt_play.specs.Order.{order_of}
-use Rattle.kt_play.proofs.Programs.{IsProgramText-unique}
+use Rattle.kt_syntax.specs.File.{OneTree}
+use Rattle.kt_play.proofs.FaultLemmas.{one_fault}
+use Rattle.kt_play.proofs.TextLemmas.{IsProgramText-unique, fault-none}
 use Rattle.kt_play.specs.Outcome.{IsRefused}
 use Rattle.kt_play.specs.Run.{IsNamed, IsAccepted, HasJob, IsCause, IsWhole, IsPart, IsOutcome}
 use Rattle.kt_play.specs.Status.{end_of, refusal_line}
@@ -41,6 +42,7 @@ ran-headline call u l (Trap t cause) job a o = played call job _ a o
 ran-headline call u l Budget job a o = played call job _ a o
 ran-headline call u l Words job a o = tt
 ran-headline call u l (ReadFault which) job a o = tt
+ran-headline call u l (TooLong which) job a o = tt
 ran-headline call u l (Refused file cause) job a o = tt
 ran-headline call u l WriteFault job a o = tt
 ran-headline call u l NoMemory job a o = tt
@@ -52,6 +54,7 @@ away-headline call u l (Trap t cause) r h = absurd h
 away-headline call u l Budget r h = absurd h
 away-headline call u l Words r h = tt
 away-headline call u l (ReadFault which) r h = tt
+away-headline call u l (TooLong which) r h = tt
 away-headline call u l (Refused file cause) r h = tt
 away-headline call u l WriteFault r h = tt
 away-headline call u l NoMemory r h = tt
@@ -69,6 +72,7 @@ ran-line call u l (Trap t cause) job o = tt
 ran-line call u l Budget job o = tt
 ran-line call u l Words job o = absurd o
 ran-line call u l (ReadFault which) job o = absurd o
+ran-line call u l (TooLong which) job o = absurd o
 ran-line call u l (Refused file cause) job o = absurd o
 ran-line call u l WriteFault job o = tt
 ran-line call u l NoMemory job o = tt
@@ -80,7 +84,8 @@ away-line call u l (Trap t cause) r untouched h = tt
 away-line call u l Budget r untouched h = tt
 away-line call u l Words r untouched h = (untouched, h.1)
 away-line call u l (ReadFault (File n)) r untouched h = (untouched, h.1)
-away-line call u l (Refused file (Later at)) r untouched h = (untouched, h.1)
+away-line call u l (TooLong (File n)) r untouched h = (untouched, h.1)
+away-line call u l (Refused file cause) r untouched h = (untouched, h.1)
 away-line call u l WriteFault r untouched h = tt
 away-line call u l NoMemory r untouched h = tt
 
@@ -125,6 +130,7 @@ refused-words (Trap t cause) log l h = absurd h
 refused-words Budget log l h = absurd h
 refused-words Words log l h = refl
 refused-words (ReadFault which) log l h = absurd (let e = h.0 in cc)
+refused-words (TooLong which) log l h = absurd (let e = h.0 in cc)
 refused-words (Refused file cause) log l h = absurd (let e = h.0 in cc)
 refused-words WriteFault log l h = absurd h
 refused-words NoMemory log l h = absurd (h.0 refl)
@@ -148,9 +154,14 @@ unread call u l s (inr t) (File n) e =
 pub refused : (call : Call) (u l : Type 0) (s : Status) → IsAnswer call u l s → (file : ℕ) (cause : Cause) → s ≡ Refused file cause →
     IsRefusedFile call.words call.told file cause
 refused call u l s (inl r) file cause e = absurd (subst (λ (k : Status). IsOutcome k r.job call.out call.log u l) e r.outcome)
-refused call u l s (inr t) file (Later at) e =
-    let c = cause_as call u l s t (refusal.File file (Later at)) (subst (λ (k : Status). IsRefused k t.why call.log l) e t.refused).0 in
-    record { later = ap Later c.fact.0; outside = record { names = c.names; order = c.order; fact = c.fact.1 } }
+refused call u l s (inr t) file cause e =
+    cause_as call u l s t (refusal.File file cause) (subst (λ (k : Status). IsRefused k t.why call.log l) e t.refused).0
+
+pub too_long : (call : Call) (u l : Type 0) (s : Status) → IsAnswer call u l s → (which : Which) → s ≡ TooLong which →
+    IsTooLong call.words call.told which
+too_long call u l s (inl r) which e = absurd (subst (λ (k : Status). IsOutcome k r.job call.out call.log u l) e r.outcome)
+too_long call u l s (inr t) (File n) e =
+    record { number = n; file = refl; cause = cause_as call u l s t (refusal.Long (File n)) (subst (λ (k : Status). IsRefused k t.why call.log l) e t.refused).0 }
 
 -- ---- completeness
 
@@ -198,45 +209,75 @@ at_names words P names e n = let o = n.order in let same : n.names ≡ names = c
 no_name : (words names : List (List ℕ)) → order_of words ≡ Some names → order_of words ≡ None → ⊥
 no_name words names e n = cc
 
--- texts are those of at most one job, and then of none that is refused
-one_job : (files : List (List ℕ)) (job other : Job) → IsJobText files job → IsJobText files other → job ≡ other
-one_job [] job other s t = absurd s
-one_job (a ∷ []) job other s t =
-    let v = IsProgramText-unique a s.0 t.0 s.1 t.1 in let x = s.2 in let y = t.2 in cc
-one_job (a ∷ (r ∷ [])) job other s t = absurd s
-one_job (a ∷ (r ∷ (b ∷ []))) job other s t =
-    let v = IsProgramText-unique a s.0 t.0 s.2 t.2 in let w = IsProgramText-unique b s.1 t.1 s.4 t.4 in let x = s.5 in let y = t.5 in cc
-one_job (a ∷ (r ∷ (b ∷ (c ∷ more)))) job other s t = absurd s
+-- what is told of the first names
+tell_front : (told : Option FileMap) (n : ℕ) (names files : List (List ℕ)) → TellAll told names files → TellAll told (take n names) (take n files)
+tell_front told zero names files t = tt
+tell_front told (suc n) [] [] t = tt
+tell_front told (suc n) [] (b ∷ files) t = absurd t
+tell_front told (suc n) (x ∷ names) [] t = absurd t
+tell_front told (suc n) (x ∷ names) (b ∷ files) t = (t.0, tell_front told n names files t.1)
 
-not_outside : (files : List (List ℕ)) (job : Job) (n : ℕ) → IsJobText files job → IsFirstOutside files n → ⊥
-not_outside [] job n s o = s
-not_outside (a ∷ []) job n s o = o.1 s.0 s.1
-not_outside (a ∷ (r ∷ [])) job n s o = s
-not_outside (a ∷ (r ∷ (b ∷ []))) job n s o = elim o [
-  | inl one ↦ one.1 s.0 s.2
-  | inr more ↦ elim more [ inl two ↦ two.2 s.3 | inr three ↦ three.3 s.1 s.4 ]
-]
-not_outside (a ∷ (r ∷ (b ∷ (c ∷ more)))) job n s o = s
+hold_front : (told : Option FileMap) (n : ℕ) (names files : List (List ℕ)) → HoldAll told names files → HoldAll told (take n names) (take n files)
+hold_front told zero names files h = tt
+hold_front told (suc n) [] [] h = tt
+hold_front told (suc n) [] (b ∷ files) h = absurd h
+hold_front told (suc n) (x ∷ names) [] h = absurd h
+hold_front told (suc n) (x ∷ names) (b ∷ files) h = (h.0, hold_front told n names files h.1)
 
--- at most one of three files is the first outside
-one_of_three : (a r b : List ℕ) (m n : ℕ) → IsOutsideOfThree a r b m → IsOutsideOfThree a r b n → m ≡ n
-one_of_three a r b m n (inl p) (inl q) = p.0 ∙ sym q.0
-one_of_three a r b m n (inl p) (inr (inl q)) = absurd (p.1 q.1.0 q.1.1)
-one_of_three a r b m n (inl p) (inr (inr q)) = absurd (p.1 q.1.0 q.1.1)
-one_of_three a r b m n (inr (inl p)) (inl q) = absurd (q.1 p.1.0 p.1.1)
-one_of_three a r b m n (inr (inl p)) (inr (inl q)) = p.0 ∙ sym q.0
-one_of_three a r b m n (inr (inl p)) (inr (inr q)) = absurd (p.2 q.2)
-one_of_three a r b m n (inr (inr p)) (inl q) = absurd (q.1 p.1.0 p.1.1)
-one_of_three a r b m n (inr (inr p)) (inr (inl q)) = absurd (q.2 p.2)
-one_of_three a r b m n (inr (inr p)) (inr (inr q)) = p.0 ∙ sym q.0
+short_front : (n : ℕ) (files : List (List ℕ)) → AreShort files → AreShort (take n files)
+short_front zero files h = tt
+short_front (suc n) [] h = tt
+short_front (suc n) (b ∷ files) h = (h.0, short_front n files h.1)
 
--- at most one file is the first outside
-one_outside : (files : List (List ℕ)) (m n : ℕ) → IsFirstOutside files m → IsFirstOutside files n → m ≡ n
-one_outside [] m n s t = absurd s
-one_outside (a ∷ []) m n s t = s.0 ∙ sym t.0
-one_outside (a ∷ (r ∷ [])) m n s t = absurd s
-one_outside (a ∷ (r ∷ (b ∷ []))) m n s t = one_of_three a r b m n s t
-one_outside (a ∷ (r ∷ (b ∷ (c ∷ more)))) m n s t = absurd s
+long_or_short : (files : List (List ℕ)) (n : ℕ) → IsFirstLong files n → AreShort files → ⊥
+long_or_short [] n h k = h
+long_or_short (b ∷ files) zero h k = h
+long_or_short (b ∷ files) (suc zero) h k = omega (arith, h, k.0)
+long_or_short (b ∷ files) (suc (suc n)) h k = long_or_short files (suc n) h.1 k.1
+
+-- no file is too long where all are short
+none_long : (told : Option FileMap) (n : ℕ) (names files others : List (List ℕ)) → TellAll told names files → HoldAll told (take n names) others →
+    IsFirstLong others n → AreShort files → ⊥
+none_long told n names files others t h long short =
+    let same : others ≡ take n files = one_list told (take n names) (take n files) others (tell_front told n names files t) h in
+    long_or_short others n long (subst AreShort (sym same) (short_front n files short))
+
+-- at most one file is the first that is too long
+one_long : (told : Option FileMap) (names files others : List (List ℕ)) (n m : ℕ) → TellAll told (take n names) files → HoldAll told (take m names) others →
+    IsFirstLong files n → IsFirstLong others m → m ≡ n
+one_long told names [] others n m t h long other = absurd long
+one_long told names (b ∷ files) [] n m t h long other = absurd other
+one_long told names (b ∷ files) (o ∷ others) zero m t h long other = absurd long
+one_long told names (b ∷ files) (o ∷ others) (suc n) zero t h long other = absurd other
+one_long told [] (b ∷ files) (o ∷ others) (suc n) (suc m) t h long other = absurd t
+one_long told (x ∷ names) (b ∷ files) (o ∷ others) (suc zero) (suc zero) t h long other = refl
+one_long told (x ∷ names) (b ∷ files) (o ∷ others) (suc zero) (suc (suc m)) t h long other =
+    let same = one_file told x b o t.0 h.0 in let short = subst IsShort same other.0 in absurd (omega (arith, long, short))
+one_long told (x ∷ names) (b ∷ files) (o ∷ others) (suc (suc n)) (suc zero) t h long other =
+    let same = one_file told x b o t.0 h.0 in let short = subst IsShort (sym same) long.0 in absurd (omega (arith, other, short))
+one_long told (x ∷ names) (b ∷ files) (o ∷ others) (suc (suc n)) (suc (suc m)) t h long other =
+    ap suc (one_long told names files others (suc n) (suc m) t.1 h.1 long.1 other.1)
+
+-- a file that is held behind the first that is too long
+held_long : (told : Option FileMap) (names files others : List (List ℕ)) (n : ℕ) → TellAll told (take n names) files → HoldAll told names others →
+    IsFirstLong files n → AreShort others → ⊥
+held_long told names files others n t h long short =
+    let same : take n others ≡ files = one_list told (take n names) files (take n others) t (hold_front told n names others h) in
+    long_or_short files n long (subst AreShort same (short_front n others short))
+
+-- the unread file stands behind none that is too long
+unread_long : (told : Option FileMap) (names files others : List (List ℕ)) (n place : ℕ) (name : List ℕ) → TellAll told (take n names) files →
+    HoldAll told (take place names) others → AreShort others → slice_get names place ≡ Some name → Lacks told name → IsFirstLong files n → ⊥
+unread_long told names [] others n place name t h short e k long = long
+unread_long told names (b ∷ files) others zero place name t h short e k long = long
+unread_long told [] (b ∷ files) others (suc n) place name t h short e k long = t
+unread_long told (x ∷ names) (b ∷ files) others (suc n) zero name t h short e k long =
+    let same : x ≡ name = cc in lacking told x b (subst (Lacks told) (sym same) k) (told_holds told x b t.0)
+unread_long told (x ∷ names) (b ∷ files) [] (suc n) (suc place) name t h short e k long = h
+unread_long told (x ∷ names) (b ∷ files) (o ∷ others) (suc zero) (suc place) name t h short e k long =
+    let same = one_file told x b o t.0 h.0 in let within = subst IsShort same short.0 in omega (arith, long, within)
+unread_long told (x ∷ names) (b ∷ files) (o ∷ others) (suc (suc n)) (suc place) name t h short e k long =
+    unread_long told names files others (suc n) place name t.1 h.1 short.1 e k long.1
 
 refused-memory : (s : Status) (log : Writes) (l : Type 0) → IsRefused s refusal.Memory log l → s ≡ NoMemory
 refused-memory (Main v) log l h = absurd h
@@ -244,13 +285,14 @@ refused-memory (Trap t cause) log l h = absurd h
 refused-memory Budget log l h = absurd h
 refused-memory Words log l h = absurd (let e = h.0 in cc)
 refused-memory (ReadFault which) log l h = absurd (let e = h.0 in cc)
+refused-memory (TooLong which) log l h = absurd (let e = h.0 in cc)
 refused-memory (Refused file cause) log l h = absurd (let e = h.0 in cc)
 refused-memory WriteFault log l h = absurd h
 refused-memory NoMemory log l h = refl
 
--- a read that failed is told as such, or memory was wanting
+-- a read that failed is told as such, or an earlier file was too long, or memory was wanting
 abbrev IsReadFault : Status → Type 0
-IsReadFault s = ((which : Which) × (s ≡ ReadFault which)) ⊎ (s ≡ NoMemory)
+IsReadFault s = ((which : Which) × (s ≡ ReadFault which)) ⊎ (((which : Which) × (s ≡ TooLong which)) ⊎ (s ≡ NoMemory))
 
 refused-read : (s : Status) (which : Which) (log : Writes) (l : Type 0) → IsRefused s (refusal.Read which) log l → IsReadFault s
 refused-read (Main v) which log l h = absurd h
@@ -258,20 +300,36 @@ refused-read (Trap t cause) which log l h = absurd h
 refused-read Budget which log l h = absurd h
 refused-read Words which log l h = absurd (let e = h.0 in cc)
 refused-read (ReadFault other) which log l h = inl (other, refl)
+refused-read (TooLong other) which log l h = absurd (let e = h.0 in cc)
 refused-read (Refused file cause) which log l h = absurd (let e = h.0 in cc)
 refused-read WriteFault which log l h = absurd h
-refused-read NoMemory which log l h = inr refl
+refused-read NoMemory which log l h = inr (inr refl)
 
-refused-file : (s : Status) (n at file : ℕ) (log : Writes) (l : Type 0) → n ≡ file → at ≡ 0 → IsRefused s (refusal.File n (Later at)) log l →
-    (s ≡ Refused file (Later 0)) ⊎ (s ≡ NoMemory)
-refused-file (Main v) n at file log l same none h = absurd h
-refused-file (Trap t cause) n at file log l same none h = absurd h
-refused-file Budget n at file log l same none h = absurd h
-refused-file Words n at file log l same none h = absurd (let e = h.0 in cc)
-refused-file (ReadFault which) n at file log l same none h = absurd (let e = h.0 in cc)
-refused-file (Refused other cause) n at file log l same none h = let e = h.0 in inl cc
-refused-file WriteFault n at file log l same none h = absurd h
-refused-file NoMemory n at file log l same none h = inr refl
+refused-long : (s : Status) (which : Which) (log : Writes) (l : Type 0) → IsRefused s (refusal.Long which) log l → (s ≡ TooLong which) ⊎ (s ≡ NoMemory)
+refused-long (Main v) which log l h = absurd h
+refused-long (Trap t cause) which log l h = absurd h
+refused-long Budget which log l h = absurd h
+refused-long Words which log l h = absurd (let e = h.0 in cc)
+refused-long (ReadFault other) which log l h = absurd (let e = h.0 in cc)
+refused-long (TooLong other) which log l h = let e = h.0 in inl cc
+refused-long (Refused file cause) which log l h = absurd (let e = h.0 in cc)
+refused-long WriteFault which log l h = absurd h
+refused-long NoMemory which log l h = inr refl
+
+-- the file of that number is refused for this cause, or memory was wanting
+abbrev IsRefusalOf : Status → ℕ → Cause → Type 0
+IsRefusalOf s file cause = (s ≡ Refused file cause) ⊎ (s ≡ NoMemory)
+
+refused-file : (s : Status) (file : ℕ) (cause : Cause) (log : Writes) (l : Type 0) → IsRefused s (refusal.File file cause) log l → IsRefusalOf s file cause
+refused-file (Main v) file cause log l h = absurd h
+refused-file (Trap t why) file cause log l h = absurd h
+refused-file Budget file cause log l h = absurd h
+refused-file Words file cause log l h = absurd (let e = h.0 in cc)
+refused-file (ReadFault which) file cause log l h = absurd (let e = h.0 in cc)
+refused-file (TooLong which) file cause log l h = absurd (let e = h.0 in cc)
+refused-file (Refused other why) file cause log l h = let e = h.0 in inl cc
+refused-file WriteFault file cause log l h = absurd h
+refused-file NoMemory file cause log l h = inr refl
 
 -- no sink failed, so the run's end is the answer
 ran-complete : (call : Call) (u l : Type 0) (s : Status) (job : Job) → ¬ Rose call.out.faults_before call.out.faults_after →
@@ -281,41 +339,114 @@ ran-complete call u l (Trap t cause) job no_out no_log o = inr (_, o.turns, o.ru
 ran-complete call u l Budget job no_out no_log o = inr (_, o.turns, o.run.complete, refl)
 ran-complete call u l Words job no_out no_log o = absurd o
 ran-complete call u l (ReadFault which) job no_out no_log o = absurd o
+ran-complete call u l (TooLong which) job no_out no_log o = absurd o
 ran-complete call u l (Refused file cause) job no_out no_log o = absurd o
 ran-complete call u l WriteFault job no_out no_log o = absurd (elim o.fails [ inl first ↦ no_out first.0.0 | inr second ↦ no_log second.1.0 ])
 ran-complete call u l NoMemory job no_out no_log o = inl refl
 
-away-complete : (call : Call) (l : Type 0) (s : Status) (r : Refusal) (names files : List (List ℕ)) (job : Job) → order_of call.words ≡ Some names →
-    TellAll call.told names files → IsJobText files job → ¬ Rose call.faults_before call.faults_after →
-    IsCause r call.words call.told call.faults_before call.faults_after → IsRefused s r call.log l → s ≡ NoMemory
-away-complete call l s refusal.Words names files job e t text calm cause h = absurd (no_name call.words names e cause)
-away-complete call l s (refusal.Read (File n)) names files job e t text calm cause h =
-    let c = at_names call.words _ names e cause in
-    absurd (elim c.cause [ inl rose ↦ calm rose | inr lacks ↦ lacking_none call.told names files c.place c.name (hold_told call.told names files t) c.named lacks ])
-away-complete call l s (refusal.File n (Later at)) names files job e t text calm cause h =
-    let outside = (at_names call.words _ names e cause).1 in
-    absurd (not_outside files job n text (subst (λ (b : List (List ℕ)). IsFirstOutside b n) (one_list call.told names files outside.files t outside.holds) outside.outside))
-away-complete call l s refusal.Memory names files job e t text calm cause h = refused-memory s call.log l h
+module _ (one : OneTree) where
+  -- texts are those of at most one job, and then of none that is refused
+  one_job : (files : List (List ℕ)) (job other : Job) → IsJobOf files job → IsJobOf files other → job ≡ other
+  one_job [] job other s t = absurd s
+  one_job (a ∷ []) job other s t =
+      let v = IsProgramText-unique one a s.0 t.0 s.1 t.1 in let x = s.2 in let y = t.2 in cc
+  one_job (a ∷ (r ∷ [])) job other s t = absurd s
+  one_job (a ∷ (r ∷ (b ∷ []))) job other s t =
+      let v = IsProgramText-unique one a s.0 t.0 s.2 t.2 in let w = IsProgramText-unique one b s.1 t.1 s.4 t.4 in let x = s.5 in let y = t.5 in cc
+  one_job (a ∷ (r ∷ (b ∷ (c ∷ more)))) job other s t = absurd s
 
-pub complete : (call : Call) (u l : Type 0) (s : Status) → IsAnswer call u l s → (names files : List (List ℕ)) (job : Job) →
-    order_of call.words ≡ Some names → TellAll call.told names files → IsJobText files job → ¬ Rose call.faults_before call.faults_after →
-    ¬ Rose call.out.faults_before call.out.faults_after → ¬ Rose call.log.faults_before call.log.faults_after → EndsOrLacksMemory job s
-complete call u l s (inl r) names files job e t text calm calm_out calm_log =
-    let has = at_names call.words (HasJob call.told r.job) names e r.accepted in
-    let same = one_list call.told names files has.files t has.holds in
-    let one = one_job files r.job job (subst (λ (b : List (List ℕ)). IsJobText b r.job) same has.text) text in
-    ran-complete call u l s job calm_out calm_log (subst (λ (k : Job). IsOutcome s k call.out call.log u l) one r.outcome)
-complete call u l s (inr x) names files job e t text calm calm_out calm_log =
-    inl (away-complete call l s x.why names files job e t text calm x.cause x.refused)
+  not_outside : (files : List (List ℕ)) (job : Job) (n : ℕ) (cause : Cause) → IsJobOf files job → IsOutside files n cause → ⊥
+  not_outside [] job n cause s o = s
+  not_outside (a ∷ []) job n cause s o = fault-none one a cause o.1 (s.0, s.1)
+  not_outside (a ∷ (r ∷ [])) job n cause s o = s
+  not_outside (a ∷ (r ∷ (b ∷ []))) job n cause s o = elim o [
+    | inl first ↦ fault-none one a cause first.1 (s.0, s.2)
+    | inr more ↦ elim more [ inl third ↦ fault-none one b cause third.2 (s.1, s.4) | inr second ↦ second.3 s.3 ]
+  ]
+  not_outside (a ∷ (r ∷ (b ∷ (c ∷ more)))) job n cause s o = s
+
+  -- at most one of three files is the first outside, for one cause
+  one_of_three : (a r b : List ℕ) (m n : ℕ) (c d : Cause) → IsOutsideOfThree a r b m c → IsOutsideOfThree a r b n d → (m ≡ n) × (c ≡ d)
+  one_of_three a r b m n c d (inl p) (inl q) = (p.0 ∙ sym q.0, one_fault one a c d p.1 q.1)
+  one_of_three a r b m n c d (inl p) (inr (inl q)) = absurd (fault-none one a c p.1 q.1)
+  one_of_three a r b m n c d (inl p) (inr (inr q)) = absurd (fault-none one a c p.1 q.1)
+  one_of_three a r b m n c d (inr (inl p)) (inl q) = absurd (fault-none one a d q.1 p.1)
+  one_of_three a r b m n c d (inr (inl p)) (inr (inl q)) = (p.0 ∙ sym q.0, one_fault one b c d p.2 q.2)
+  one_of_three a r b m n c d (inr (inl p)) (inr (inr q)) = absurd (fault-none one b c p.2 q.2)
+  one_of_three a r b m n c d (inr (inr p)) (inl q) = absurd (fault-none one a d q.1 p.1)
+  one_of_three a r b m n c d (inr (inr p)) (inr (inl q)) = absurd (fault-none one b d q.2 p.2)
+  one_of_three a r b m n c d (inr (inr p)) (inr (inr q)) = (p.0 ∙ sym q.0, p.4 ∙ sym q.4)
+
+  -- at most one file is the first outside, for one cause
+  one_outside : (files : List (List ℕ)) (m n : ℕ) (c d : Cause) → IsOutside files m c → IsOutside files n d → (m ≡ n) × (c ≡ d)
+  one_outside [] m n c d s t = absurd s
+  one_outside (a ∷ []) m n c d s t = (s.0 ∙ sym t.0, one_fault one a c d s.1 t.1)
+  one_outside (a ∷ (r ∷ [])) m n c d s t = absurd s
+  one_outside (a ∷ (r ∷ (b ∷ []))) m n c d s t = one_of_three a r b m n c d s t
+  one_outside (a ∷ (r ∷ (b ∷ (x ∷ more)))) m n c d s t = absurd s
+
+  away-complete : (call : Call) (l : Type 0) (s : Status) (r : Refusal) (names files : List (List ℕ)) (job : Job) → order_of call.words ≡ Some names →
+      TellAll call.told names files → IsJobText files job → ¬ Rose call.faults_before call.faults_after →
+      IsCause r call.words call.told call.faults_before call.faults_after → IsRefused s r call.log l → s ≡ NoMemory
+  away-complete call l s refusal.Words names files job e t text calm cause h = absurd (no_name call.words names e cause)
+  away-complete call l s (refusal.Read (File n)) names files job e t text calm cause h =
+      let c = at_names call.words _ names e cause in
+      absurd (elim c.cause [ inl rose ↦ calm rose | inr lacks ↦ lacking_none call.told names files c.place c.name (hold_told call.told names files t) c.named lacks ])
+  away-complete call l s (refusal.Long (File n)) names files job e t text calm cause h =
+      let c = at_names call.words _ names e cause in absurd (none_long call.told n names files c.files t c.holds c.long text.0)
+  away-complete call l s (refusal.File n why) names files job e t text calm cause h =
+      let c = at_names call.words _ names e cause in
+      absurd (not_outside files job n why text.1 (subst (λ (b : List (List ℕ)). IsOutside b n why) (one_list call.told names files c.files t c.holds) c.outside.1))
+  away-complete call l s refusal.Memory names files job e t text calm cause h = refused-memory s call.log l h
+
+  pub complete : (call : Call) (u l : Type 0) (s : Status) → IsAnswer call u l s → (names files : List (List ℕ)) (job : Job) →
+      order_of call.words ≡ Some names → TellAll call.told names files → IsJobText files job → ¬ Rose call.faults_before call.faults_after →
+      ¬ Rose call.out.faults_before call.out.faults_after → ¬ Rose call.log.faults_before call.log.faults_after → EndsOrLacksMemory job s
+  complete call u l s (inl r) names files job e t text calm calm_out calm_log =
+      let has = at_names call.words (HasJob call.told r.job) names e r.accepted in
+      let same = one_list call.told names files has.files t has.holds in
+      let one = one_job files r.job job (subst (λ (b : List (List ℕ)). IsJobOf b r.job) same has.text.1) text.1 in
+      ran-complete call u l s job calm_out calm_log (subst (λ (k : Job). IsOutcome s k call.out call.log u l) one r.outcome)
+  complete call u l s (inr x) names files job e t text calm calm_out calm_log =
+      inl (away-complete call l s x.why names files job e t text calm x.cause x.refused)
+
+  away-outside : (call : Call) (l : Type 0) (s : Status) (r : Refusal) (names files : List (List ℕ)) (file : ℕ) (why : Cause) → order_of call.words ≡ Some names →
+      TellAll call.told names files → IsFirstOutside files file why → ¬ Rose call.faults_before call.faults_after →
+      IsCause r call.words call.told call.faults_before call.faults_after → IsRefused s r call.log l → IsRefusalOf s file why
+  away-outside call l s refusal.Words names files file why e t none calm cause h = absurd (no_name call.words names e cause)
+  away-outside call l s (refusal.Read (File n)) names files file why e t none calm cause h =
+      let c = at_names call.words _ names e cause in
+      absurd (elim c.cause [ inl rose ↦ calm rose | inr lacks ↦ lacking_none call.told names files c.place c.name (hold_told call.told names files t) c.named lacks ])
+  away-outside call l s (refusal.Long (File n)) names files file why e t none calm cause h =
+      let c = at_names call.words _ names e cause in absurd (none_long call.told n names files c.files t c.holds c.long none.0)
+  away-outside call l s (refusal.File n other) names files file why e t none calm cause h =
+      let c = at_names call.words _ names e cause in
+      let o = subst (λ (b : List (List ℕ)). IsOutside b n other) (one_list call.told names files c.files t c.holds) c.outside.1 in
+      let same = one_outside files n file other why o none.1 in
+      let is : refusal.File n other ≡ refusal.File file why = ap (λ k. refusal.File k other) same.0 ∙ ap (refusal.File file) same.1 in
+      refused-file s file why call.log l (subst (λ (k : Refusal). IsRefused s k call.log l) is h)
+  away-outside call l s refusal.Memory names files file why e t none calm cause h = inr (refused-memory s call.log l h)
+
+  pub outside : (call : Call) (u l : Type 0) (s : Status) → IsAnswer call u l s → (names files : List (List ℕ)) (file : ℕ) (why : Cause) →
+      order_of call.words ≡ Some names → TellAll call.told names files → IsFirstOutside files file why → ¬ Rose call.faults_before call.faults_after →
+      IsRefusalOf s file why
+  outside call u l s (inl r) names files file why e t none calm =
+      let has = at_names call.words (HasJob call.told r.job) names e r.accepted in
+      absurd (not_outside files r.job file why (subst (λ (b : List (List ℕ)). IsJobOf b r.job) (one_list call.told names files has.files t has.holds) has.text.1) none.1)
+  outside call u l s (inr x) names files file why e t none calm = away-outside call l s x.why names files file why e t none calm x.cause x.refused
+
+-- ---- files that are lacking or too long
 
 away-missing : (call : Call) (l : Type 0) (s : Status) (r : Refusal) (names : List (List ℕ)) (place : ℕ) (name : List ℕ) → order_of call.words ≡ Some names →
     slice_get names place ≡ Some name → Lacks call.told name →
     IsCause r call.words call.told call.faults_before call.faults_after → IsRefused s r call.log l → IsReadFault s
 away-missing call l s refusal.Words names place name e n k cause h = absurd (no_name call.words names e cause)
 away-missing call l s (refusal.Read which) names place name e n k cause h = refused-read s which call.log l h
-away-missing call l s (refusal.File m (Later at)) names place name e n k cause h =
-    let outside = (at_names call.words _ names e cause).1 in absurd (lacking_none call.told names outside.files place name outside.holds n k)
-away-missing call l s refusal.Memory names place name e n k cause h = inr (refused-memory s call.log l h)
+away-missing call l s (refusal.Long which) names place name e n k cause h =
+    elim (refused-long s which call.log l h) [ inl long ↦ inr (inl (which, long)) | inr none ↦ inr (inr none) ]
+away-missing call l s (refusal.File m why) names place name e n k cause h =
+    let c = at_names call.words _ names e cause in absurd (lacking_none call.told names c.files place name c.holds n k)
+away-missing call l s refusal.Memory names place name e n k cause h = inr (inr (refused-memory s call.log l h))
 
 pub missing : (call : Call) (u l : Type 0) (s : Status) → IsAnswer call u l s → (names : List (List ℕ)) (place : ℕ) (name : List ℕ) →
     order_of call.words ≡ Some names → slice_get names place ≡ Some name → Lacks call.told name → IsReadFault s
@@ -324,23 +455,24 @@ missing call u l s (inl r) names place name e n k =
     absurd (lacking_none call.told names has.files place name has.holds n k)
 missing call u l s (inr x) names place name e n k = away-missing call l s x.why names place name e n k x.cause x.refused
 
-away-outside : (call : Call) (l : Type 0) (s : Status) (r : Refusal) (names files : List (List ℕ)) (file : ℕ) → order_of call.words ≡ Some names →
-    TellAll call.told names files → IsFirstOutside files file → ¬ Rose call.faults_before call.faults_after →
-    IsCause r call.words call.told call.faults_before call.faults_after → IsRefused s r call.log l → (s ≡ Refused file (Later 0)) ⊎ (s ≡ NoMemory)
-away-outside call l s refusal.Words names files file e t none calm cause h = absurd (no_name call.words names e cause)
-away-outside call l s (refusal.Read (File n)) names files file e t none calm cause h =
+away-long : (call : Call) (l : Type 0) (s : Status) (r : Refusal) (names files : List (List ℕ)) (n : ℕ) → order_of call.words ≡ Some names →
+    TellAll call.told (take n names) files → IsFirstLong files n → ¬ Rose call.faults_before call.faults_after →
+    IsCause r call.words call.told call.faults_before call.faults_after → IsRefused s r call.log l → (s ≡ TooLong (File n)) ⊎ (s ≡ NoMemory)
+away-long call l s refusal.Words names files n e t long calm cause h = absurd (no_name call.words names e cause)
+away-long call l s (refusal.Read (File m)) names files n e t long calm cause h =
     let c = at_names call.words _ names e cause in
-    absurd (elim c.cause [ inl rose ↦ calm rose | inr lacks ↦ lacking_none call.told names files c.place c.name (hold_told call.told names files t) c.named lacks ])
-away-outside call l s (refusal.File n (Later at)) names files file e t none calm cause h =
+    absurd (elim c.cause [ inl rose ↦ calm rose | inr lacks ↦ unread_long call.told names files c.files n c.place c.name t c.holds c.short c.named lacks long ])
+away-long call l s (refusal.Long (File m)) names files n e t long calm cause h =
     let c = at_names call.words _ names e cause in
-    let o = subst (λ (b : List (List ℕ)). IsFirstOutside b n) (one_list call.told names files c.1.files t c.1.holds) c.1.outside in
-    refused-file s n at file call.log l (one_outside files n file o none) c.0 h
-away-outside call l s refusal.Memory names files file e t none calm cause h = inr (refused-memory s call.log l h)
+    let same : m ≡ n = one_long call.told names files c.files n m t c.holds long c.long in
+    refused-long s (File n) call.log l (subst (λ (k : ℕ). IsRefused s (refusal.Long (File k)) call.log l) same h)
+away-long call l s (refusal.File m why) names files n e t long calm cause h =
+    let c = at_names call.words _ names e cause in absurd (held_long call.told names files c.files n t c.holds long c.outside.0)
+away-long call l s refusal.Memory names files n e t long calm cause h = inr (refused-memory s call.log l h)
 
-pub outside_form : (call : Call) (u l : Type 0) (s : Status) → IsAnswer call u l s → (names files : List (List ℕ)) (file : ℕ) →
-    order_of call.words ≡ Some names → TellAll call.told names files → IsFirstOutside files file → ¬ Rose call.faults_before call.faults_after →
-    (s ≡ Refused file (Later 0)) ⊎ (s ≡ NoMemory)
-outside_form call u l s (inl r) names files file e t none calm =
+pub long : (call : Call) (u l : Type 0) (s : Status) → IsAnswer call u l s → (names files : List (List ℕ)) (n : ℕ) → order_of call.words ≡ Some names →
+    TellAll call.told (take n names) files → IsFirstLong files n → ¬ Rose call.faults_before call.faults_after → (s ≡ TooLong (File n)) ⊎ (s ≡ NoMemory)
+long call u l s (inl r) names files n e t too_long calm =
     let has = at_names call.words (HasJob call.told r.job) names e r.accepted in
-    absurd (not_outside files r.job file (subst (λ (b : List (List ℕ)). IsJobText b r.job) (one_list call.told names files has.files t has.holds) has.text) none)
-outside_form call u l s (inr x) names files file e t none calm = away-outside call l s x.why names files file e t none calm x.cause x.refused
+    absurd (held_long call.told names files has.files n t has.holds too_long has.text.0)
+long call u l s (inr x) names files n e t too_long calm = away-long call l s x.why names files n e t too_long calm x.cause x.refused

@@ -1,10 +1,10 @@
 -- One code more.
 use Rattle.std.specs.Prelude.{◌≡◌, ℕ, zero, suc, ◌+◌, ◌<◌, List, [], ◌∷◌, ◌++◌, length, map, take, slice_index_or, refl}
 use Rattle.std.proofs.Common.{arith, sym, subst, ap, ◌∙◌}
-use Rattle.kt_meaning.specs.Steps.{DoesSameActs}
-use Rattle.kt_meaning.specs.Thread.{entry, settle}
-use Rattle.kt_meaning.specs.declared.tree.Program.{Program}
-use Rattle.kt_meaning.specs.Tree.{Version, version_of}
+use Rattle.kt_small.specs.Steps.{DoesSameActs}
+use Rattle.kt_small.specs.Thread.{entry, settle}
+use Rattle.kt_small.specs.declared.tree.Program.{Program}
+use Rattle.kt_small.specs.Tree.{Version, version_of}
 use Rattle.kt_codegen.specs.declared.instr.Instr.{Instr}
 use Rattle.kt_codegen.specs.Machine.{machine_settle, start}
 use Rattle.kt_play.specs.Acts.{DoTheSameActs}

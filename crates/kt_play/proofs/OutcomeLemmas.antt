@@ -4,7 +4,7 @@ use Rattle.std.proofs.Common.{ap, subst}
 use Rattle.kt_edge.specs.Writes.{Writes}
 use Rattle.kt_world.specs.declared.mark.End.{End}
 use Rattle.kt_play.specs.declared.status.Status.{Status}
-use Rattle.kt_play.specs.declared.status.Status.TheVariants.{Main, Trap, Budget, Words, ReadFault, Refused, WriteFault, NoMemory}
+use Rattle.kt_play.specs.declared.status.Status.TheVariants.{Main, Trap, Budget, Words, ReadFault, TooLong, Refused, WriteFault, NoMemory}
 use Rattle.kt_world.specs.declared.mark.Mark.{Mark}
 use Rattle.kt_world.specs.Job.{Job}
 use Rattle.kt_play.specs.Journal.{journal_of}
@@ -52,4 +52,5 @@ outcome WriteFault job turns how output marks out log u l r w = record {
 outcome NoMemory job turns how output marks out log u l r w = w
 outcome Words job turns how output marks out log u l r w = w
 outcome (ReadFault which) job turns how output marks out log u l r w = w
+outcome (TooLong which) job turns how output marks out log u l r w = w
 outcome (Refused file cause) job turns how output marks out log u l r w = w

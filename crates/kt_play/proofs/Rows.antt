@@ -1,9 +1,9 @@
 -- A nested block of the code's tree is the block of its list.
 use Rattle.std.proofs.Common.{◌≡◌, List, refl, ap, ◌∙◌}
 use mathlib.Core.Former.{Count}
-use Rattle.kt_meaning.specs.declared.tree.Expr.{Expr}
-use Rattle.kt_meaning.specs.declared.tree.Stmt.{Stmt, If, If', While, While', Row_of-Stmt, end_of-Stmt, more_of-Stmt, items-the_row-Stmt, items_hidden-the_row-Stmt-0}
-use Rattle.kt_meaning.specs.Tree.{Choosing, Looping, Then, statement_of, block_of_row, block_of}
+use Rattle.kt_small.specs.declared.tree.Expr.{Expr}
+use Rattle.kt_small.specs.declared.tree.Stmt.{Stmt, If, If', While, While', Row_of-Stmt, end_of-Stmt, more_of-Stmt, items-the_row-Stmt, items_hidden-the_row-Stmt-0}
+use Rattle.kt_small.specs.Tree.{Choosing, Looping, Then, statement_of, block_of_row, block_of}
 
 abbrev row_of : Stmt → (n : Count) × Row_of-Stmt n
 row_of (If' e _ row) = (_, row)

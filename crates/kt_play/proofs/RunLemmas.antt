@@ -2,9 +2,9 @@
 use Rattle.std.specs.Prelude.{◌≡◌, ℕ, zero, suc, ◌+◌, ◌-◌, ◌<◌, ◌≤◌, ◌==◌, ◌&&◌, List, [], ◌∷◌, length, Option, Some, None, is_some, Bool, true, false, not, replicate, slice_get, refl}
 use Rattle.std.proofs.Common.{arith, sym, subst, ap, ◌∙◌, inl, inr}
 use Rattle.std.proofs.lemmas.Bool.Decides.{eqb_tells}
-use Rattle.kt_meaning.specs.Steps.{DoesSameActs}
-use Rattle.kt_meaning.specs.Thread as tree
-use Rattle.kt_meaning.specs.Tree.{Version}
+use Rattle.kt_small.specs.Steps.{DoesSameActs}
+use Rattle.kt_small.specs.Thread as tree
+use Rattle.kt_small.specs.Tree.{Version}
 use Rattle.kt_codegen.specs.declared.instr.Instr.{Instr}
 use Rattle.kt_codegen.specs.Machine.{State, machine_settle, start}
 use Rattle.kt_world.specs.declared.mark.End.{End}

@@ -1,8 +1,8 @@
 -- Codes that do what the trees of the versions do.
 use Rattle.std.specs.Prelude.{◌≡◌, ℕ, List, Some, slice_get}
-use Rattle.kt_meaning.specs.Steps.{DoesSameActs}
-use Rattle.kt_meaning.specs.Thread.{entry, settle}
-use Rattle.kt_meaning.specs.Tree.{Version}
+use Rattle.kt_small.specs.Steps.{DoesSameActs}
+use Rattle.kt_small.specs.Thread.{entry, settle}
+use Rattle.kt_small.specs.Tree.{Version}
 use Rattle.kt_codegen.specs.declared.instr.Instr.{Instr}
 use Rattle.kt_codegen.specs.Machine.{machine_settle, start}
 use Rattle.kt_play.specs.Engine.{code_at}

@@ -4,7 +4,6 @@ use Rattle.kt_edge.specs.FileMap.{FileMap}
 use Rattle.kt_edge.specs.Writes.{Writes, Takes}
 use Rattle.kt_world.specs.declared.mark.End.{End}
 use Rattle.kt_play.specs.declared.status.Cause.{Cause}
-use Rattle.kt_play.specs.declared.status.Cause.TheVariants.{Later}
 use Rattle.kt_play.specs.declared.status.Which.{Which}
 use Rattle.kt_play.specs.declared.status.Which.TheVariants.{File}
 use Rattle.kt_play.specs.declared.status.Status.{Status}
@@ -16,7 +15,7 @@ use Rattle.kt_play.specs.Order.{order_of, texts}
 use Rattle.kt_play.specs.declared.refusal.Refusal.{Refusal}
 use Rattle.kt_play.specs.declared.refusal.Refusal.TheVariants as refusal
 use Rattle.kt_play.specs.Outcome.{FailsToWrite, IsRefused}
-use Rattle.kt_play.specs.Run.{IsUnreadFile, IsRun, IsNamed, IsAccepted, IsOutsideForm, IsCause, IsOutcome}
+use Rattle.kt_play.specs.Run.{IsUnreadFile, IsRun, IsNamed, IsAccepted, IsRefusedFor, IsLongFile, IsCause, IsOutcome}
 use Rattle.kt_play.specs.Status.{status_of}
 
 -- a run of the job that the words name: with the turns that its journal lists, it ends so, with this output
@@ -48,10 +47,15 @@ pub record IsUnread (words : List (List ℕ)) (told : Option FileMap) (before no
   pub file : which ≡ File number
   pub cause : IsNamed words (IsUnreadFile told before now number)
 
--- the file that is refused is the first that is not what it has to be
-pub record IsRefusedFile (words : List (List ℕ)) (told : Option FileMap) (file : ℕ) (cause : Cause) : Type 0 where
-  pub later : cause ≡ Later 0
-  pub outside : IsNamed words (IsOutsideForm told file)
+-- the file of that number is the first that is too long
+pub record IsTooLong (words : List (List ℕ)) (told : Option FileMap) (which : Which) : Type 0 where
+  pub number : ℕ
+  pub file : which ≡ File number
+  pub cause : IsNamed words (IsLongFile told number)
+
+-- the file that is refused is the first that is not what it has to be, for this cause
+abbrev pub IsRefusedFile : List (List ℕ) → Option FileMap → ℕ → Cause → Type 0
+IsRefusedFile words told file cause = IsNamed words (IsRefusedFor told file cause)
 
 -- the answer is the end of a complete list of turns of the job, or want of memory
 abbrev pub EndsOrLacksMemory : Job → Status → Type 0

@@ -1,7 +1,7 @@
 -- The engine of the machine: threads run the code of the version in force.
 use Rattle.std.specs.Prelude.{◌≡◌, ℕ, ◌+◌, List, [], ◌∷◌, Bool, true, false, unwrap_or, slice_get, Option, Some, None}
-use Rattle.kt_meaning.specs.declared.acts.Mode.TheVariants.{Updating}
-use Rattle.kt_meaning.specs.Tree.{Version}
+use Rattle.kt_small.specs.declared.acts.Mode.TheVariants.{Updating}
+use Rattle.kt_small.specs.Tree.{Version}
 use Rattle.kt_codegen.specs.declared.instr.Instr.{Instr}
 use Rattle.kt_codegen.specs.declared.run.Head.{Head}
 use Rattle.kt_codegen.specs.declared.run.Head.TheVariants.{Act, Trap, End}

@@ -1,11 +1,13 @@
 -- The job of an order: the bytes of its files, what they are the text of, and the first file that is no such text.
-use Rattle.std.specs.Prelude.{◌≡◌, ℕ, List, [], ◌∷◌, length, ◌≤◌, ◌⊎◌, Option, true}
+use Rattle.std.specs.Prelude.{◌≡◌, ℕ, zero, suc, List, [], ◌∷◌, length, ◌<◌, ◌≤◌, ◌⊎◌, Option, true}
 use Rattle.std.specs.List.{list_all}
 use Rattle.kt_edge.specs.FileMap.{FileMap, Holds, Tells}
-use Rattle.kt_meaning.specs.Tree.{Version}
+use Rattle.kt_small.specs.Tree.{Version}
 use Rattle.kt_world.specs.Job.{Job}
-use Rattle.kt_play.specs.Form.{IsProgramText}
-use Rattle.kt_play.specs.Pieces.{is_blank}
+use Rattle.kt_lex.specs.Bytes.{is_blank}
+use Rattle.kt_play.specs.declared.status.Cause.{Cause}
+use Rattle.kt_play.specs.declared.status.Cause.TheVariants.{Later}
+use Rattle.kt_play.specs.Text.{IsProgramText, IsFaultOf}
 
 -- the most turns of a run
 abbrev pub budget : ℕ
@@ -24,38 +26,56 @@ TellAll told (name ∷ names) (bytes ∷ files) = Tells told name bytes × TellA
 TellAll told [] (bytes ∷ files) = ⊥
 TellAll told (name ∷ names) [] = ⊥
 
--- a rule file without rules: at most 262,144 spaces, tabs, carriage returns and newlines
-pub record IsBlankText (bytes : List ℕ) : Type 0 where
-  pub short : length bytes ≤ 262144
-  pub blank : list_all is_blank bytes ≡ true
+-- a file is within the limit
+abbrev pub IsShort : List ℕ → Type 0
+IsShort bytes = length bytes ≤ 262144
+
+abbrev pub AreShort : List (List ℕ) → Type 0
+AreShort [] = Unit {0}
+AreShort (bytes ∷ files) = IsShort bytes × AreShort files
+
+-- a rule file without rules: spaces, tabs, carriage returns and newlines
+abbrev pub IsBlankText : List ℕ → Type 0
+IsBlankText bytes = list_all is_blank bytes ≡ true
 
 -- the files are a version, or a version, blank rules and the next version, which is asked for at once
-abbrev pub IsJobText : List (List ℕ) → Job → Type 0
-IsJobText [] job = ⊥
-IsJobText (a ∷ []) job = (v : Version) × IsProgramText a v × (job ≡ record { versions = v ∷ []; after = []; budget = budget })
-IsJobText (a ∷ (r ∷ [])) job = ⊥
-IsJobText (a ∷ (r ∷ (b ∷ []))) job =
+abbrev pub IsJobOf : List (List ℕ) → Job → Type 0
+IsJobOf [] job = ⊥
+IsJobOf (a ∷ []) job = (v : Version) × IsProgramText a v × (job ≡ record { versions = v ∷ []; after = []; budget = budget })
+IsJobOf (a ∷ (r ∷ [])) job = ⊥
+IsJobOf (a ∷ (r ∷ (b ∷ []))) job =
     (v : Version) × (w : Version) × IsProgramText a v × IsBlankText r × IsProgramText b w
     × (job ≡ record { versions = v ∷ (w ∷ []); after = 0 ∷ []; budget = budget })
-IsJobText (a ∷ (r ∷ (b ∷ (c ∷ more)))) job = ⊥
+IsJobOf (a ∷ (r ∷ (b ∷ (c ∷ more)))) job = ⊥
 
-abbrev pub IsNoProgramText : List ℕ → Type 0
-IsNoProgramText bytes = (v : Version) → IsProgramText bytes v → ⊥
+-- each within the limit
+abbrev pub IsJobText : List (List ℕ) → Job → Type 0
+IsJobText files job = AreShort files × IsJobOf files job
 
 abbrev pub HasProgramText : List ℕ → Type 0
 HasProgramText bytes = (v : Version) × IsProgramText bytes v
 
--- a version's file and a rule file before the file that is no such text
-abbrev pub IsOutsideOfThree : (a r b : List ℕ) → ℕ → Type 0
-IsOutsideOfThree a r b n =
-    ((n ≡ 1) × IsNoProgramText a)
-    ⊎ (((n ≡ 2) × HasProgramText a × (IsBlankText r → ⊥))
-    ⊎ ((n ≡ 3) × HasProgramText a × IsBlankText r × IsNoProgramText b))
+-- version files are judged in their order, and then the rules between them
+abbrev pub IsOutsideOfThree : (a r b : List ℕ) → ℕ → Cause → Type 0
+IsOutsideOfThree a r b n cause =
+    ((n ≡ 1) × IsFaultOf a cause)
+    ⊎ (((n ≡ 3) × HasProgramText a × IsFaultOf b cause)
+    ⊎ ((n ≡ 2) × HasProgramText a × HasProgramText b × (IsBlankText r → ⊥) × (cause ≡ Later 0)))
 
--- the file of that number is the first that is not what it has to be
-abbrev pub IsFirstOutside : List (List ℕ) → ℕ → Type 0
-IsFirstOutside [] n = ⊥
-IsFirstOutside (a ∷ []) n = (n ≡ 1) × IsNoProgramText a
-IsFirstOutside (a ∷ (r ∷ [])) n = ⊥
-IsFirstOutside (a ∷ (r ∷ (b ∷ []))) n = IsOutsideOfThree a r b n
-IsFirstOutside (a ∷ (r ∷ (b ∷ (c ∷ more)))) n = ⊥
+abbrev pub IsOutside : List (List ℕ) → ℕ → Cause → Type 0
+IsOutside [] n cause = ⊥
+IsOutside (a ∷ []) n cause = (n ≡ 1) × IsFaultOf a cause
+IsOutside (a ∷ (r ∷ [])) n cause = ⊥
+IsOutside (a ∷ (r ∷ (b ∷ []))) n cause = IsOutsideOfThree a r b n cause
+IsOutside (a ∷ (r ∷ (b ∷ (c ∷ more)))) n cause = ⊥
+
+-- no file is too long, and the file of that number is the first that is not what it has to be, for this cause
+abbrev pub IsFirstOutside : List (List ℕ) → ℕ → Cause → Type 0
+IsFirstOutside files n cause = AreShort files × IsOutside files n cause
+
+-- the file of that number is the first that passes the limit
+abbrev pub IsFirstLong : List (List ℕ) → ℕ → Type 0
+IsFirstLong [] n = ⊥
+IsFirstLong (bytes ∷ files) zero = ⊥
+IsFirstLong (bytes ∷ files) (suc zero) = 262144 < length bytes
+IsFirstLong (bytes ∷ files) (suc (suc n)) = IsShort bytes × IsFirstLong files (suc n)

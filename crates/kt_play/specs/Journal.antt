@@ -1,7 +1,7 @@
 -- The journal: the text of a list of turns and of the marks between them.
 use Rattle.std.specs.Prelude.{ℕ, ◌+◌, ◌-◌, ◌==◌, List, [], ◌∷◌, ◌++◌, codes, take, drop, if◌then◌else◌}
 use Rattle.std.specs.Fmt.{decimal, signed_decimal}
-use Rattle.kt_meaning.specs.declared.acts.Trap.TheVariants.{Overflow}
+use Rattle.kt_small.specs.declared.acts.Trap.TheVariants.{Overflow}
 use Rattle.kt_world.specs.declared.mark.Closed.{Closed}
 use Rattle.kt_world.specs.declared.mark.Closed.TheVariants as closed
 use Rattle.kt_world.specs.declared.mark.End.{End}

@@ -7,7 +7,7 @@ use Rattle.kt_world.specs.declared.mark.End.TheVariants as end
 use Rattle.kt_play.specs.declared.refusal.Refusal.{Refusal}
 use Rattle.kt_play.specs.declared.refusal.Refusal.TheVariants as refusal
 use Rattle.kt_play.specs.declared.status.Status.{Status}
-use Rattle.kt_play.specs.declared.status.Status.TheVariants.{Main, Trap, Budget, Words, ReadFault, Refused, WriteFault, NoMemory}
+use Rattle.kt_play.specs.declared.status.Status.TheVariants.{Main, Trap, Budget, Words, ReadFault, TooLong, Refused, WriteFault, NoMemory}
 
 -- the output sink failed before the journal was begun, or it took the output whole and the log failed
 abbrev pub FailsToWrite : Writes → Writes → (log_untouched : Type 0) → (output journal : List ℕ) → Type 0
@@ -22,6 +22,7 @@ IsWritten WriteFault how out log untouched log_untouched output journal = FailsT
 IsWritten NoMemory how out log untouched log_untouched output journal = untouched × log_untouched
 IsWritten Words how out log untouched log_untouched output journal = ⊥
 IsWritten (ReadFault which) how out log untouched log_untouched output journal = ⊥
+IsWritten (TooLong which) how out log untouched log_untouched output journal = ⊥
 IsWritten (Refused file cause) how out log untouched log_untouched output journal = ⊥
 
 -- the journal of a run that ended so was written, or the log failed
@@ -32,6 +33,7 @@ IsLogged Budget how log journal = (how ≡ end.Budget) × Takes log journal
 IsLogged WriteFault how log journal = FailsIn log journal
 IsLogged Words how log journal = ⊥
 IsLogged (ReadFault which) how log journal = ⊥
+IsLogged (TooLong which) how log journal = ⊥
 IsLogged (Refused file cause) how log journal = ⊥
 IsLogged NoMemory how log journal = ⊥
 
@@ -43,6 +45,7 @@ LogsLine answer log = IfSome (refusal_line answer) (TakesOrFails log)
 abbrev pub IsRefused : Status → Refusal → Writes → (log_untouched : Type 0) → Type 0
 IsRefused Words r log log_untouched = (r ≡ refusal.Words) × LogsLine Words log
 IsRefused (ReadFault which) r log log_untouched = (r ≡ refusal.Read which) × LogsLine (ReadFault which) log
+IsRefused (TooLong which) r log log_untouched = (r ≡ refusal.Long which) × LogsLine (TooLong which) log
 IsRefused (Refused file cause) r log log_untouched = (r ≡ refusal.File file cause) × LogsLine (Refused file cause) log
 IsRefused NoMemory r log log_untouched = (r ≢ refusal.Words) × log_untouched
 IsRefused (Main v) r log log_untouched = ⊥

@@ -4,9 +4,10 @@ use Rattle.std.specs.Fmt.{decimal}
 use Rattle.kt_world.specs.declared.mark.End.{End}
 use Rattle.kt_world.specs.declared.mark.End.TheVariants as end
 use Rattle.kt_play.specs.declared.status.Which.TheVariants.{File}
-use Rattle.kt_play.specs.declared.status.Cause.TheVariants.{Later}
+use Rattle.kt_play.specs.declared.status.Cause.{Cause}
+use Rattle.kt_play.specs.declared.status.Cause.TheVariants.{Byte, Unclosed, Literal, Directive, Syntax, TooDeep, Unknown, Twice, BadType, Incomplete, TooBig, Entry, Note, NoMain, Later}
 use Rattle.kt_play.specs.declared.status.Status.{Status}
-use Rattle.kt_play.specs.declared.status.Status.TheVariants.{Main, Trap, Budget, Words, ReadFault, Refused, WriteFault, NoMemory}
+use Rattle.kt_play.specs.declared.status.Status.TheVariants.{Main, Trap, Budget, Words, ReadFault, TooLong, Refused, WriteFault, NoMemory}
 
 -- the answer at the end of a run
 abbrev pub status_of : End → Status
@@ -21,9 +22,45 @@ end_of (Trap t cause) = Some (end.Trap t cause)
 end_of Budget = Some end.Budget
 end_of Words = None
 end_of (ReadFault which) = None
+end_of (TooLong which) = None
 end_of (Refused file cause) = None
 end_of WriteFault = None
 end_of NoMemory = None
+
+-- the name of a cause in the log, and the place
+abbrev pub cause_name : Cause → List ℕ
+cause_name (Byte at) = codes "byte"
+cause_name (Unclosed at) = codes "unclosed"
+cause_name (Literal at) = codes "literal"
+cause_name (Directive at) = codes "directive"
+cause_name (Syntax at) = codes "syntax"
+cause_name (TooDeep at) = codes "too_deep"
+cause_name (Unknown at) = codes "unknown"
+cause_name (Twice at) = codes "twice"
+cause_name (BadType at) = codes "bad_type"
+cause_name (Incomplete at) = codes "incomplete"
+cause_name (TooBig at) = codes "too_big"
+cause_name (Entry at) = codes "entry"
+cause_name (Note at) = codes "note"
+cause_name (NoMain at) = codes "no_main"
+cause_name (Later at) = codes "later"
+
+abbrev pub cause_place : Cause → ℕ
+cause_place (Byte at) = at
+cause_place (Unclosed at) = at
+cause_place (Literal at) = at
+cause_place (Directive at) = at
+cause_place (Syntax at) = at
+cause_place (TooDeep at) = at
+cause_place (Unknown at) = at
+cause_place (Twice at) = at
+cause_place (BadType at) = at
+cause_place (Incomplete at) = at
+cause_place (TooBig at) = at
+cause_place (Entry at) = at
+cause_place (Note at) = at
+cause_place (NoMain at) = at
+cause_place (Later at) = at
 
 -- the line that a refusal writes into the log
 abbrev pub refusal_line : Status → Option (List ℕ)
@@ -32,7 +69,8 @@ refusal_line (Trap t cause) = None
 refusal_line Budget = None
 refusal_line Words = Some (codes "refuse words\n")
 refusal_line (ReadFault (File n)) = Some (codes "refuse read " ++ (decimal n ++ codes "\n"))
-refusal_line (Refused n (Later at)) = Some (codes "refuse " ++ (decimal n ++ (codes " later " ++ (decimal at ++ codes "\n"))))
+refusal_line (TooLong (File n)) = Some (codes "refuse long " ++ (decimal n ++ codes "\n"))
+refusal_line (Refused n cause) = Some (codes "refuse " ++ (decimal n ++ (codes " " ++ (cause_name cause ++ (codes " " ++ (decimal (cause_place cause) ++ codes "\n"))))))
 refusal_line WriteFault = None
 refusal_line NoMemory = None
 
@@ -43,6 +81,7 @@ exit_of (Trap t cause) = 10
 exit_of Budget = 11
 exit_of Words = 2
 exit_of (ReadFault which) = 3
+exit_of (TooLong which) = 6
 exit_of (Refused file cause) = 4
 exit_of WriteFault = 5
 exit_of NoMemory = 7

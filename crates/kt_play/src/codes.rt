@@ -1,12 +1,12 @@
 //! The codes of the versions of a job.
 
 ghost use Rattle.std.specs.Prelude.{◌≡◌, length, map, IfOk};
-ghost use Rattle.kt_meaning.specs.Tree.{version_of};
+ghost use Rattle.kt_small.specs.Tree.{version_of};
 ghost use Rattle.kt_play.specs.Acts.{DoTheSameActs};
 
 use kt_codegen::code::Code;
 use kt_codegen::generate::compile;
-use kt_meaning::tree::Program;
+use kt_small::tree::Program;
 use std::alloc::{AllocError, Global};
 
 /// The code of each version, in order: it does the acts that the version's tree does.

@@ -1,11 +1,11 @@
 //! The values of globals and the points of two versions, by name.
 
 ghost use Rattle.std.specs.Prelude.{◌≡◌, ◌<◌, ◌^◌, bytes_eq, length, slice_get, slice_set, IfOk, IfSome};
-ghost use Rattle.kt_meaning.specs.Tree.{version_of};
+ghost use Rattle.kt_small.specs.Tree.{version_of};
 ghost use Rattle.kt_world.specs.Update as plain;
 ghost use Rattle.kt_play.specs.Effects.{placed_one};
 
-use kt_meaning::tree::{Global as GlobalDecl, Program};
+use kt_small::tree::{Global as GlobalDecl, Program};
 use sqlite_items::{Items, at};
 use std::alloc::{AllocError, Global};
 

@@ -5,7 +5,7 @@ ghost use Rattle.std.specs.Fmt.{decimal};
 ghost use Rattle.kt_play.specs.Journal as spec;
 
 use itoa::Buffer;
-use kt_meaning::acts::Trap;
+use kt_small::acts::Trap;
 use kt_world::mark::{Closed, End, Mark};
 use std::alloc::{AllocError, Global};
 

@@ -3,7 +3,6 @@
 
 mod codes;
 mod effects;
-mod form;
 mod journal;
 mod machine;
 mod order;
@@ -14,7 +13,9 @@ mod refuse;
 mod report;
 mod run;
 mod shared;
+mod small;
 pub mod status;
 #[cfg(test)]
 mod tests;
+mod text;
 mod turns;

@@ -1,7 +1,7 @@
 //! The machine: it takes the turns of thread 0.
 
 ghost use Rattle.std.specs.Prelude.{◌≡◌, ◌<◌, IfOk, MatchOption, None, Some, length, option_and_then};
-ghost use Rattle.kt_meaning.specs.Tree.{version_of};
+ghost use Rattle.kt_small.specs.Tree.{version_of};
 ghost use Rattle.kt_world.specs.Job as plain_job;
 ghost use Rattle.kt_world.specs.Plain.{job_of};
 ghost use Rattle.kt_world.specs.Turn as plain_turn;
@@ -12,8 +12,8 @@ use crate::effects::{first_values, kept_values, new_point};
 use crate::shared::Shared;
 use kt_codegen::code::Code;
 use kt_codegen::run::{Head, Thread};
-use kt_meaning::acts::{Act, Mode, Reply};
-use kt_meaning::tree::Program;
+use kt_small::acts::{Act, Mode, Reply};
+use kt_small::tree::Program;
 use kt_world::job::Job;
 use kt_world::mark::{End, Mark, Phase};
 use std::alloc::{AllocError, Global};
@@ -36,7 +36,7 @@ fn code_in_force(codes: &[Code], version: u32) -> &Code
 
 impl Machine {
     ghost use Rattle.std.specs.Prelude.{◌≡◌, ◌<◌, ◌^◌, ◌∷◌, [], List, Some, true, false, length, IfOk, OnOk};
-    ghost use Rattle.kt_meaning.specs.Tree.{version_of};
+    ghost use Rattle.kt_small.specs.Tree.{version_of};
     ghost use Rattle.kt_codegen.specs.declared.instr.Instr.{Instr};
     ghost use Rattle.kt_codegen.specs.Heads.{head_of};
     ghost use Rattle.kt_codegen.specs.Machine.{machine_step};

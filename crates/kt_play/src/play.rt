@@ -1,13 +1,13 @@
 //! The top call.
 
-ghost use Rattle.std.specs.Prelude.{◌≡◌, ◌<◌, ◌⊎◌, ◌↔◌, ℕ, List, IfSome, None, Some, replicate, slice_get};
+ghost use Rattle.std.specs.Prelude.{◌≡◌, ◌<◌, ◌⊎◌, ◌↔◌, ℕ, List, IfSome, None, Some, replicate, slice_get, take};
 ghost use Rattle.kt_edge.specs.Count.{Rose};
 ghost use Rattle.kt_edge.specs.FileMap.{Lacks};
 ghost use Rattle.kt_edge.specs.Writes.{writes_of, TakesOrFails};
 ghost use Rattle.kt_world.specs.Job as plain;
 ghost use Rattle.kt_world.specs.Plain.{job_of};
-ghost use Rattle.kt_play.specs.Answer.{call_of, HasFailed, HasPlayed, IsAnswer, IsRefusedFile, IsUnread, EndsOrLacksMemory};
-ghost use Rattle.kt_play.specs.Job.{IsFirstOutside, IsJobText, TellAll};
+ghost use Rattle.kt_play.specs.Answer.{call_of, HasFailed, HasPlayed, IsAnswer, IsRefusedFile, IsTooLong, IsUnread, EndsOrLacksMemory};
+ghost use Rattle.kt_play.specs.Job.{IsFirstOutside, IsFirstLong, IsJobText, TellAll};
 ghost use Rattle.kt_play.specs.Journal.{journal_of};
 ghost use Rattle.kt_play.specs.Order.{order_of, texts};
 ghost use Rattle.kt_play.specs.Outcome.{IsWritten};
@@ -23,6 +23,7 @@ use crate::run::run;
 use crate::status::{Cause, Status, Which};
 use crate::turns::Report;
 use kt_edge::{Files, Sink, Source};
+use kt_syntax::file_laws;
 use kt_world::job::Job;
 use std::alloc::Global;
 
@@ -78,9 +79,10 @@ fn respond<F: Files, O: Sink, J: Sink>(
 /// turns to `log`.
 ///
 /// The words are the name of one file, a version, or of three: a version, the rules of its update (which are blank so
-/// far), and the next version, which is asked for at once. A name isn't empty and doesn't begin with `-`. Each file has
-/// at most 262,144 bytes, and a version is a program of the second form. A refusal writes one line to `log` and nothing
-/// to `out`, and a failure of that line changes no answer. The output is written first and then the journal; after a
+/// far), and the next version, which is asked for at once. A name isn't empty and doesn't begin with `-`. The files are read
+/// in their order, and each has at most 262,144 bytes; then the versions are judged, and then the rules. A version is a C
+/// file that has its tokens, its syntax and its types; what of those runs so far has one thread and globals of type `int`. A
+/// refusal writes one line to `log` and nothing to `out`, and a failure of that line changes no answer. The output is written first and then the journal; after a
 /// failing write nothing more is written. The input isn't read yet. Want of memory may come in place of any answer but
 /// `Words`; nothing was written then.
 pub fn play<F: Files, S: Source, O: Sink, J: Sink>(
@@ -103,11 +105,15 @@ pub fn play<F: Files, S: Source, O: Sink, J: Sink>(
     ensures words { (result ≡ Status.Words) ↔ (order_of (texts words.now) ≡ None) }
     ensures unread { (which : Which) → result ≡ Status.ReadFault which → IsUnread (texts words.now) (F.told files.old) (F.faults files.old) (F.faults files.new) which }
     ensures missing { (names : List (List ℕ)) (place : ℕ) (name : List ℕ) → order_of (texts words.now) ≡ Some names → slice_get names place ≡ Some name →
-        Lacks (F.told files.old) name → ((which : Which) × (result ≡ Status.ReadFault which)) ⊎ (result ≡ Status.NoMemory) }
+        Lacks (F.told files.old) name → ((which : Which) × (result ≡ Status.ReadFault which)) ⊎ (((which : Which) × (result ≡ Status.TooLong which)) ⊎ (result ≡ Status.NoMemory)) }
+    ensures too_long { (which : Which) → result ≡ Status.TooLong which → IsTooLong (texts words.now) (F.told files.old) which }
+    ensures long { (names texts_of_files : List (List ℕ)) (file : ℕ) → order_of (texts words.now) ≡ Some names → TellAll (F.told files.old) (take file names) texts_of_files →
+        IsFirstLong texts_of_files file → ¬ Rose (F.faults files.old) (F.faults files.new) →
+        (result ≡ Status.TooLong (Which.File file)) ⊎ (result ≡ Status.NoMemory) }
     ensures refused { (file : ℕ) (cause : Cause) → result ≡ Status.Refused file cause → IsRefusedFile (texts words.now) (F.told files.old) file cause }
-    ensures outside_form { (names texts_of_files : List (List ℕ)) (file : ℕ) → order_of (texts words.now) ≡ Some names → TellAll (F.told files.old) names texts_of_files →
-        IsFirstOutside texts_of_files file → ¬ Rose (F.faults files.old) (F.faults files.new) →
-        (result ≡ Status.Refused file (Cause.Later 0)) ⊎ (result ≡ Status.NoMemory) }
+    ensures outside { (names texts_of_files : List (List ℕ)) (file : ℕ) (cause : Cause) → order_of (texts words.now) ≡ Some names → TellAll (F.told files.old) names texts_of_files →
+        IsFirstOutside texts_of_files file cause → ¬ Rose (F.faults files.old) (F.faults files.new) →
+        (result ≡ Status.Refused file cause) ⊎ (result ≡ Status.NoMemory) }
 
     // What was written: after a refusal its line alone, for want of memory nothing, and where a sink failed a front.
     ensures line { IfSome (refusal_line result) (λ line. (out.new ≡ out.old) × TakesOrFails (writes_of J.taken J.faults log.old log.new) line) }
@@ -118,5 +124,6 @@ pub fn play<F: Files, S: Source, O: Sink, J: Sink>(
     ensures input_unread { input.new ≡ input.old }
 {
     let _ = input;
+    file_laws();
     respond(alloc, words, files, out, log)
 }

@@ -1,25 +1,26 @@
 //! From the words to the job that they name.
 
-ghost use Rattle.std.specs.Prelude.{◌≡◌, ◌≤◌, [], ◌∷◌, IfOk, IfErr, OnOk, ◌+◌, Err};
-ghost use Rattle.kt_meaning.specs.Tree.{version_of};
+ghost use Rattle.std.specs.Prelude.{◌≡◌, ◌<◌, ◌≤◌, ℕ, List, [], ◌∷◌, length, IfOk, IfErr, OnOk, Err};
+ghost use Rattle.kt_small.specs.Tree.{version_of};
 ghost use Rattle.kt_world.specs.Plain.{job_of};
-ghost use Rattle.kt_edge.specs.FileMap.{StartsFile};
-ghost use Rattle.kt_play.specs.Form.{IsProgramText};
-ghost use Rattle.kt_play.specs.Job.{IsBlankText, IsJobText};
+ghost use Rattle.kt_lex.specs.Bytes.{is_blank};
+ghost use Rattle.kt_play.specs.Job.{IsBlankText, IsJobOf};
 ghost use Rattle.kt_play.specs.Names.{names_in};
 ghost use Rattle.kt_play.specs.Order.{order_of, texts};
-ghost use Rattle.kt_play.specs.Pieces.{is_blank};
 ghost use Rattle.std.specs.List.{list_all};
-ghost use Rattle.kt_play.specs.Prepared.{IsNoBlank, IsNoJob, IsNoVersion, IsReadCause};
+ghost use Rattle.kt_play.specs.Prepared.{IsReadWhole, IsNoBlank, IsNoJob, IsNoVersion, IsReadCause};
+ghost use Rattle.kt_play.specs.Text.{IsVersionText, IsProgramText};
 ghost use Rattle.kt_play.specs.Runnable.{IsRunnable};
 ghost use Rattle.kt_play.specs.Run.{HasJob, IsAccepted, IsCause, IsCauseFor};
 
-use crate::form::read_program;
 use crate::order::{Names, names_of};
 use crate::refusal::Refusal;
+use crate::small::small;
 use crate::status::{Cause, Which};
+use crate::text::version;
 use kt_edge::{FileEnd, Files};
-use kt_meaning::tree::Program;
+use kt_small::tree::Program;
+use kt_tree::Version;
 use kt_world::job::Job;
 use sqlite_items::Items;
 use std::alloc::Global;
@@ -91,7 +92,7 @@ fn read_three<F: Files>(
     }
 }
 
-// The first bytes of three files.
+// The bytes of three files.
 #[derive(Drop)]
 struct Texts {
     first: Vec<u8>,
@@ -106,9 +107,9 @@ fn read_texts<F: Files>(
     second: &str,
     files: &mut F,
 ) -> Result<Texts, Refusal>
-    ensures first { IfOk result (λ texts. StartsFile (F.told files.old) first.now (262144 + 1) texts.first.items) }
-    ensures rules { IfOk result (λ texts. StartsFile (F.told files.old) rules.now (262144 + 1) texts.rules.items) }
-    ensures second { IfOk result (λ texts. StartsFile (F.told files.old) second.now (262144 + 1) texts.second.items) }
+    ensures first { IfOk result (λ texts. IsReadWhole (F.told files.old) first.now texts.first.items) }
+    ensures rules { IfOk result (λ texts. IsReadWhole (F.told files.old) rules.now texts.rules.items) }
+    ensures second { IfOk result (λ texts. IsReadWhole (F.told files.old) second.now texts.second.items) }
     ensures cause { IfErr result (λ refusal. IsCauseFor refusal (F.told files.old) (F.faults files.old) (F.faults files.new) (first.now ∷ (rules.now ∷ (second.now ∷ [])))) }
     ensures same { F.told files.new ≡ F.told files.old }
 {
@@ -122,26 +123,39 @@ fn read_texts<F: Files>(
     })
 }
 
-// The first bytes of the file of this name, the n-th of the words: all where it is within the limit, else one more.
+// The bytes of the file of this name, the n-th of the words, which is within the limit.
 fn read<F: Files>(alloc: Global, n: u8, name: &str, files: &mut F) -> Result<Vec<u8>, Refusal>
-    ensures start { IfOk result (λ text. StartsFile (F.told files.old) name.now (262144 + 1) text.items) }
+    ensures whole { IfOk result (λ text. IsReadWhole (F.told files.old) name.now text.items) }
     ensures cause { IfErr result (λ refusal. IsReadCause refusal (F.told files.old) name.now (F.faults files.old) (F.faults files.new) n) }
     ensures same { F.told files.new ≡ F.told files.old }
     ensures later { F.faults files.old ≤ F.faults files.new }
 {
     match files.read(alloc, name, LIMIT) {
-        Ok(bytes) => Ok(bytes),
+        Ok(bytes) => measured(n, bytes),
         Err(FileEnd::Missing | FileEnd::Failed) => Err(Refusal::Read(Which::File(n))),
         Err(FileEnd::NoMemory) => Err(Refusal::Memory),
     }
 }
 
+// The bytes, unless they pass the limit.
+fn measured(n: u8, bytes: Vec<u8>) -> Result<Vec<u8>, Refusal>
+    ensures short { IfOk result (λ text. (text ≡ bytes) × (length bytes.items ≤ 262144)) }
+    ensures long { IfErr result (λ refusal. (refusal ≡ Refusal.Long (Which.File n)) × (262144 < length bytes.items)) }
+{
+    if bytes.len() > LIMIT as usize {
+        Err(Refusal::Long(Which::File(n)))
+    } else {
+        Ok(bytes)
+    }
+}
+
 fn one_version(alloc: Global, text: &[u8]) -> Result<Job, Refusal>
-    ensures job { IfOk result (λ job. IsJobText (text.now ∷ []) (job_of job)) }
+    requires { length text.now ≤ 262144 }
+    ensures job { IfOk result (λ job. IsJobOf (text.now ∷ []) (job_of job)) }
     ensures runnable { IfOk result IsRunnable }
     ensures cause { IfErr result (λ refusal. IsNoJob refusal (text.now ∷ [])) }
 {
-    let version = version(alloc, 1, text)?;
+    let version = program(alloc, 1, text)?;
     let mut versions = Items::new(alloc);
     versions.push(version)?;
     Ok(Job {
@@ -152,13 +166,15 @@ fn one_version(alloc: Global, text: &[u8]) -> Result<Job, Refusal>
 }
 
 fn two_versions(alloc: Global, first: &[u8], rules: &[u8], second: &[u8]) -> Result<Job, Refusal>
-    ensures job { IfOk result (λ job. IsJobText (first.now ∷ (rules.now ∷ (second.now ∷ []))) (job_of job)) }
+    requires first { length first.now ≤ 262144 }
+    requires second { length second.now ≤ 262144 }
+    ensures job { IfOk result (λ job. IsJobOf (first.now ∷ (rules.now ∷ (second.now ∷ []))) (job_of job)) }
     ensures runnable { IfOk result IsRunnable }
     ensures cause { IfErr result (λ refusal. IsNoJob refusal (first.now ∷ (rules.now ∷ (second.now ∷ [])))) }
 {
-    let old = version(alloc, 1, first)?;
+    let old = program(alloc, 1, first)?;
+    let new = program(alloc, 3, second)?;
     blank(rules)?;
-    let new = version(alloc, 3, second)?;
     let mut versions = Items::new(alloc);
     versions.push(old)?;
     versions.push(new)?;
@@ -171,15 +187,27 @@ fn two_versions(alloc: Global, first: &[u8], rules: &[u8], second: &[u8]) -> Res
     })
 }
 
-// The version in the first bytes of the n-th file.
-fn version(alloc: Global, n: u8, text: &[u8]) -> Result<Program, Refusal>
-    ensures program { IfOk result (λ p. IsProgramText text.now (version_of p)) }
-    ensures cause { IfErr result (λ refusal. IsNoVersion refusal text.now n) }
+// The version in the small form, which runs so far.
+fn runnable(alloc: Global, n: u8, version: &Version) -> Result<Program, Refusal>
+    ensures program { IfOk result (λ p. (bytes : List ℕ) → IsVersionText bytes version.now → IsProgramText bytes (version_of p)) }
+    ensures cause { IfErr result (λ refusal. (bytes : List ℕ) → IsVersionText bytes version.now → IsNoVersion refusal bytes n) }
 {
-    match read_program(alloc, text) {
+    match small(alloc, version) {
         Ok(Some(program)) => Ok(program),
         Ok(None) => Err(Refusal::File(n, Cause::Later(0))),
         Err(_) => Err(Refusal::Memory),
+    }
+}
+
+// The version that the text of the n-th file is, in the small form.
+fn program(alloc: Global, n: u8, text: &[u8]) -> Result<Program, Refusal>
+    requires { length text.now ≤ 262144 }
+    ensures program { IfOk result (λ p. IsProgramText text.now (version_of p)) }
+    ensures cause { IfErr result (λ refusal. IsNoVersion refusal text.now n) }
+{
+    match version(alloc, n, text) {
+        Ok(version) => runnable(alloc, n, &version),
+        Err(refusal) => Err(refusal),
     }
 }
 
@@ -188,7 +216,7 @@ fn blank(text: &[u8]) -> Result<(), Refusal>
     ensures blank { OnOk result (IsBlankText text.now) }
     ensures cause { IfErr result (λ refusal. IsNoBlank refusal text.now) }
 {
-    if text.len() <= LIMIT as usize && are_blank(text) {
+    if are_blank(text) {
         Ok(())
     } else {
         Err(Refusal::File(2, Cause::Later(0)))

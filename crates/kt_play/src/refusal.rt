@@ -13,6 +13,8 @@ pub enum Refusal {
     Words,
     /// This could not be read.
     Read(Which),
+    /// This is longer than its limit.
+    Long(Which),
     /// The file of that number is no program that runs.
     File(u8, Cause),
     /// Memory ran out.

@@ -19,7 +19,8 @@ pub fn refuse<J: Sink>(alloc: Global, refusal: Refusal, log: &mut J) -> Status
             Status::Words
         }
         Refusal::Read(Which::File(file)) => refuse_read(alloc, file, log),
-        Refusal::File(file, Cause::Later(at)) => refuse_file(alloc, file, at, log),
+        Refusal::Long(Which::File(file)) => refuse_long(alloc, file, log),
+        Refusal::File(file, cause) => refuse_file(alloc, file, cause, log),
         Refusal::Memory => Status::NoMemory,
     }
 }
@@ -36,17 +37,28 @@ fn refuse_read<J: Sink>(alloc: Global, file: u8, log: &mut J) -> Status
     }
 }
 
-fn refuse_file<J: Sink>(alloc: Global, file: u8, at: u32, log: &mut J) -> Status
-    ensures { IsRefused result (Refusal.File file (Cause.Later at)) (writes_of J.taken J.faults log.old log.new) (log.new ≡ log.old) }
+fn refuse_long<J: Sink>(alloc: Global, file: u8, log: &mut J) -> Status
+    ensures { IsRefused result (Refusal.Long (Which.File file)) (writes_of J.taken J.faults log.old log.new) (log.new ≡ log.old) }
 {
-    match format!(in alloc; "refuse {file} later {at}\n") {
+    match format!(in alloc; "refuse long {file}\n") {
         Err(_) => Status::NoMemory,
         Ok(line) => {
             write_line(line.as_bytes(), log);
-            Status::Refused {
-                file,
-                cause: Cause::Later(at),
-            }
+            Status::TooLong(Which::File(file))
+        }
+    }
+}
+
+fn refuse_file<J: Sink>(alloc: Global, file: u8, cause: Cause, log: &mut J) -> Status
+    ensures { IsRefused result (Refusal.File file cause) (writes_of J.taken J.faults log.old log.new) (log.new ≡ log.old) }
+{
+    let name = cause.name();
+    let at = cause.place();
+    match format!(in alloc; "refuse {file} {name} {at}\n") {
+        Err(_) => Status::NoMemory,
+        Ok(line) => {
+            write_line(line.as_bytes(), log);
+            Status::Refused { file, cause }
         }
     }
 }

@@ -3,7 +3,7 @@
 use crate::play::play;
 use crate::status::{Cause, Status, Which};
 use kt_edge::{MemFiles, MemSink, MemSource};
-use kt_meaning::acts::Trap;
+use kt_small::acts::Trap;
 use std::alloc::{AllocError, Global};
 use std::test::Fail;
 
@@ -177,13 +177,108 @@ fn budget_ends_an_endless_loop(rt: HostRuntime) -> Result<(), Fail> {
 }
 
 #[test]
-fn empty_file_is_later(rt: HostRuntime) -> Result<(), Fail> {
-    let played = run(rt.alloc(), "")?;
+fn each_cause_of_a_version_file(rt: HostRuntime) -> Result<(), Fail> {
+    for (text, cause, log) in [
+        ("", Cause::NoMain(0), "refuse 1 no_main 0\n"),
+        ("int a;", Cause::NoMain(6), "refuse 1 no_main 6\n"),
+        ("@", Cause::Byte(0), "refuse 1 byte 0\n"),
+        ("int a; /* b", Cause::Unclosed(7), "refuse 1 unclosed 7\n"),
+        ("\"\\q\"", Cause::Literal(0), "refuse 1 literal 0\n"),
+        ("#define A 1", Cause::Directive(0), "refuse 1 directive 0\n"),
+        (
+            "int main(void) { return 0 }",
+            Cause::Syntax(26),
+            "refuse 1 syntax 26\n",
+        ),
+        (
+            "int main(void) { return x; }",
+            Cause::Unknown(24),
+            "refuse 1 unknown 24\n",
+        ),
+        ("int a; int a;", Cause::Twice(11), "refuse 1 twice 11\n"),
+        (
+            "int main(void) { return NULL; }",
+            Cause::BadType(24),
+            "refuse 1 bad_type 24\n",
+        ),
+        (
+            "struct s a;",
+            Cause::Incomplete(7),
+            "refuse 1 incomplete 7\n",
+        ),
+        ("int a[0];", Cause::TooBig(4), "refuse 1 too_big 4\n"),
+    ] {
+        let played = run(rt.alloc(), text)?;
+        expect(&rt, &played, Status::Refused { file: 1, cause }, "", log);
+    }
+    Ok(())
+}
+
+#[test]
+fn versions_that_do_not_run_so_far(rt: HostRuntime) -> Result<(), Fail> {
+    for text in [
+        "int main(void){int x; return 0;}",
+        "long n; int main(void){return 0;}",
+        "int f(void){return 1;} int main(void){return 0;}",
+        "int n; int main(void){if(n){n=1;}else{n=2;} return 0;}",
+        "int main(void){printf(\"a\"); return 0;}",
+    ] {
+        let played = run(rt.alloc(), text)?;
+        let status = Status::Refused {
+            file: 1,
+            cause: Cause::Later(0),
+        };
+        expect(&rt, &played, status, "", "refuse 1 later 0\n");
+    }
+    Ok(())
+}
+
+// Files of blanks, of so many bytes each.
+fn blanks(alloc: Global, counts: &[(&str, usize)]) -> Result<MemFiles, AllocError> {
+    let mut entries = Vec::new(alloc);
+    for (name, count) in counts {
+        let mut text = Vec::new(alloc);
+        text.resize(*count, b' ')?;
+        entries.push((String::from_str(alloc, name)?, text))?;
+    }
+    Ok(MemFiles {
+        entries,
+        fail_on: Vec::new(alloc),
+        calls: 0,
+        faults: 0,
+    })
+}
+
+#[test]
+fn files_that_are_too_long(rt: HostRuntime) -> Result<(), Fail> {
+    let long = 262_145;
+    for (words, counts, number, log) in [
+        (
+            ["a"].as_slice(),
+            [("a", long)].as_slice(),
+            1,
+            "refuse long 1\n",
+        ),
+        (
+            &["a", "b", "c"],
+            &[("a", 1), ("b", long), ("c", long)],
+            2,
+            "refuse long 2\n",
+        ),
+        (&["a", "b", "c"], &[("a", long)], 1, "refuse long 1\n"),
+    ] {
+        let texts = blanks(rt.alloc(), counts)?;
+        let played = call(rt.alloc(), words, texts, STEADY, STEADY)?;
+        expect(&rt, &played, Status::TooLong(Which::File(number)), "", log);
+    }
+    // One byte less is within the limit.
+    let texts = blanks(rt.alloc(), &[("a", long - 1)])?;
+    let played = call(rt.alloc(), &["a"], texts, STEADY, STEADY)?;
     let status = Status::Refused {
         file: 1,
-        cause: Cause::Later(0),
+        cause: Cause::NoMain(262_144),
     };
-    expect(&rt, &played, status, "", "refuse 1 later 0\n");
+    expect(&rt, &played, status, "", "refuse 1 no_main 262144\n");
     Ok(())
 }
 
@@ -376,11 +471,20 @@ fn updates_that_end_early(rt: HostRuntime) -> Result<(), Fail> {
 
 #[test]
 fn the_first_file_outside_is_refused(rt: HostRuntime) -> Result<(), Fail> {
-    for (old, rules, new, file) in [
-        ("x", "y", "z", 1),
-        (FIRST, "y", "z", 2),
-        (FIRST, "", "z", 3),
-        (FIRST, "// ", FIRST, 2),
+    // Versions are judged before the rules between them.
+    for (old, rules, new, file, cause) in [
+        ("@", "y", "@", 1, Cause::Byte(0)),
+        (FIRST, "y", "@", 3, Cause::Byte(0)),
+        (FIRST, "", "@", 3, Cause::Byte(0)),
+        (FIRST, "y", FIRST, 2, Cause::Later(0)),
+        (FIRST, "// ", FIRST, 2, Cause::Later(0)),
+        (
+            FIRST,
+            "y",
+            "long n; int main(){return 0;}",
+            3,
+            Cause::Later(0),
+        ),
     ] {
         let texts = files(
             rt.alloc(),
@@ -394,14 +498,13 @@ fn the_first_file_outside_is_refused(rt: HostRuntime) -> Result<(), Fail> {
             STEADY,
             STEADY,
         )?;
-        let cause = Cause::Later(0);
         assert_eq!(rt; played.status, Status::Refused { file, cause });
     }
     // Files are read before any is judged; the third of them is missing, or its read fails.
     for (third, fail_on) in [("none.c", 0), ("new.c", 3)] {
         let texts = files(
             rt.alloc(),
-            &[("old.c", "x"), ("rules", ""), ("new.c", FIRST)],
+            &[("old.c", "@"), ("rules", ""), ("new.c", FIRST)],
             fail_on,
         )?;
         let played = call(

@@ -16,6 +16,8 @@ mod places;
 mod pointer;
 mod stands;
 mod statement;
+#[cfg(test)]
+mod tests;
 mod tree;
 
 pub use fault::SyntaxFault;

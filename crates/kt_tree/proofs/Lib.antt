@@ -1,4 +1,3 @@
 pub mod Distinct
-pub mod Operands
 pub mod Places
 pub mod Small

@@ -1,5 +1,5 @@
 -- The program of the tests is one.
-use Rattle.std.proofs.Common.{◌≡◌, ◌≢◌, ◌==◌, ℕ, zero, suc, ◌<◌, pos, true, false, codes, List, [], ◌∷◌, Option, Some, None, refl, sym, ◌∙◌, arith, slice_get}
+use Rattle.std.proofs.Common.{◌≡◌, ◌≢◌, ◌==◌, ℕ, zero, suc, ◌<◌, pos, true, false, codes, List, [], ◌∷◌, Option, Some, None, refl, ap, sym, ◌∙◌, arith, slice_get}
 use Rattle.std.specs.Cmp.Lexicographic.{pointwise, bytes_decides}
 use Rattle.std.proofs.lemmas.Bool.{false≢true}
 use Rattle.std.proofs.lemmas.Option.{none-some, same_Some}
@@ -7,13 +7,15 @@ use Rattle.kt_lex.specs.Words.{is_among, keywords}
 use Rattle.kt_lex.specs.Bytes.{is_word_byte}
 use Rattle.kt_types.specs.Layout.{layout, place_cells}
 use Rattle.kt_types.specs.Table.{scalar_table}
+use Rattle.kt_types.specs.declared.kinds.Ty.{Ty}
+use Rattle.kt_types.specs.declared.kinds.Ty.TheVariants as ty
 use Rattle.kt_types.specs.declared.kinds.View.TheVariants as view
 use Rattle.kt_tree.specs.declared.expr.Constant.TheVariants as constant
 use Rattle.kt_tree.specs.declared.expr.Request.TheVariants as request
 use Rattle.kt_tree.specs.declared.global.GlobalDecl.{GlobalDecl}
 use Rattle.kt_tree.specs.declared.global.Init.TheVariants as init
 use Rattle.kt_tree.specs.Tree.{Function, Compound, Then, Done, Evaluated, Returned, Requested, Chosen, Constant', NoMore}
-use Rattle.kt_tree.specs.Version.{Program, program, AreDistinct, IsGlobal, IsFunction, IsProgram, outer_names}
+use Rattle.kt_tree.specs.Version.{Program, program, AreDistinct, IsGlobal, IsFunction, IsProgram, HasOnePlaces, outer_names}
 
 abbrev pub count : GlobalDecl
 count = record { name = codes "count"; ty = 1; count = 1; array = false; view = view.One; init = init.Zero }
@@ -67,9 +69,29 @@ is_main = record { parameters = omega arith; locals = refl; views = refl; names 
 is_idle : IsFunction small idle
 is_idle = record { parameters = omega arith; locals = refl; views = refl; names = refl; distinct = λ noted i j a b lt first. absurd (none-some a first); result = refl; body = refl }
 
+-- the place of a scalar type
+scalar_place : Ty → ℕ
+scalar_place ty.Int = 1
+scalar_place ty.Long = 2
+scalar_place ty.Mutex = 3
+scalar_place _ = 0
+
+place_of_scalar : (i : ℕ) (u : Ty) → slice_get scalar_table.types i ≡ Some u → i ≡ scalar_place u
+unfolding scalar_place
+place_of_scalar zero u e = ap scalar_place (same_Some ty.Char u e)
+place_of_scalar (suc zero) u e = ap scalar_place (same_Some ty.Int u e)
+place_of_scalar (suc (suc zero)) u e = ap scalar_place (same_Some ty.Long u e)
+place_of_scalar (suc (suc (suc zero))) u e = ap scalar_place (same_Some ty.Mutex u e)
+place_of_scalar (suc (suc (suc (suc i)))) u e = absurd (none-some u e)
+
+scalar_places : HasOnePlaces scalar_table
+scalar_places i j u e h = place_of_scalar i u e ∙ sym (place_of_scalar j u h)
+
 pub is_program : IsProgram small
 unfolding layout place_cells is_among keywords
 is_program = record {
+  scalars = refl;
+  places = scalar_places;
   structs = refl;
   fields = tt;
   names = refl;

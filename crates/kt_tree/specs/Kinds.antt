@@ -121,6 +121,10 @@ is_struct_type _ number = false
 abbrev pub points_to_struct : Scope → ℕ → ℕ → Bool
 points_to_struct s t number = elim (pointee s t) as (λ _. Bool) [ None ↦ false | (Some e) ↦ is_struct_type (type_at s e) number ]
 
+-- a pointer to elements of type e that an integer moves; the pointer and what comes of it are of type t
+abbrev pub is_moved : Scope → ℕ → ℕ → ℕ → ℕ → Bool
+is_moved s e t p i = (p == t) && points_to s p e && is_complete s e && is_integer s i
+
 -- the operation takes operands of these types and gives this type
 abbrev pub is_operation : Scope → Operation → ℕ → List ℕ → Bool
 is_operation s operation.Add t (a ∷ b ∷ []) = is_integer s a && is_integer s b && (common a b == t)
@@ -136,8 +140,8 @@ is_operation s operation.Equal t (a ∷ b ∷ []) = is_comparable s a b && (t ==
 is_operation s operation.NotEqual t (a ∷ b ∷ []) = is_comparable s a b && (t == int_type)
 is_operation s operation.Not t (a ∷ []) = is_scalar s a && (t == int_type)
 is_operation s operation.Convert t (a ∷ []) = is_integer s a && is_integer s t
-is_operation s (operation.ElementAfter e) t (p ∷ i ∷ []) = (p == t) && points_to s p e && is_complete s e && is_integer s i
-is_operation s (operation.ElementBefore e) t (p ∷ i ∷ []) = (p == t) && points_to s p e && is_complete s e && is_integer s i
+is_operation s (operation.ElementAfter e) t (a ∷ b ∷ []) = is_moved s e t a b || is_moved s e t b a
+is_operation s (operation.ElementBefore e) t (p ∷ i ∷ []) = is_moved s e t p i
 is_operation s (operation.ElementsBetween e) t (p ∷ q ∷ []) = (p == q) && points_to s p e && is_complete s e && (t == long_type)
 is_operation s (operation.Field number index) t (p ∷ []) = points_to_struct s p number && points_to_field s t (field_at s number index)
 is_operation s _ t _ = false

@@ -1,4 +1,5 @@
 pub mod Back
+pub mod Forms
 pub mod Inside
 pub mod Kinds
 pub mod Names

@@ -52,6 +52,10 @@ AreDistinct names = (i j : ℕ) (a b : List ℕ) → i < j → slice_get names i
 abbrev pub AreIdentifiers : List (List ℕ) → Type 0
 AreIdentifiers names = list_all is_identifier names ≡ true
 
+-- each type has one place
+abbrev pub HasOnePlaces : Table → Type 0
+HasOnePlaces t = (i j : ℕ) (u : Ty) → slice_get t.types i ≡ Some u → slice_get t.types j ≡ Some u → i ≡ j
+
 -- a result is an integer or a pointer, or there is none
 abbrev pub is_result_type : Scope → Option ℕ → Bool
 is_result_type s None = true
@@ -152,6 +156,8 @@ pub record IsNumbered (p : Program) : Type 0 where
   pub points : length p.points.names < 4294967296
 
 pub record IsProgram (p : Program) : Type 0 where
+  pub scalars : take 4 p.types.types ≡ ty.Char ∷ ty.Int ∷ ty.Long ∷ ty.Mutex ∷ []
+  pub places : HasOnePlaces p.types
   pub structs : AreIdentifiers p.types.structs
   pub fields : AllByRecursion (AreFields p) p.types.defined
   pub names : AreIdentifiers (outer_names p)

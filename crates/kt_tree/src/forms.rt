@@ -10,7 +10,7 @@ use std::alloc::{AllocError, Global};
 
 impl Expr {
     /// The value, which the local takes.
-    #[tactic(auto, using(crate::proofs::Operands::set_form))]
+    #[tactic(auto, using(crate::specs::Forms::set_form))]
     pub fn set_local(alloc: Global, local: u32, value: Expr) -> Result<Expr, AllocError>
         ensures { IfOk result (λ e. expression_of e ≡ LocalSet local (expression_of value)) }
     {
@@ -18,7 +18,7 @@ impl Expr {
     }
 
     /// The value that the local had, before it takes the new one.
-    #[tactic(auto, using(crate::proofs::Operands::swap_form))]
+    #[tactic(auto, using(crate::specs::Forms::swap_form))]
     pub fn swap_local(alloc: Global, local: u32, value: Expr) -> Result<Expr, AllocError>
         ensures { IfOk result (λ e. expression_of e ≡ LocalSwapped local (expression_of value)) }
     {
@@ -26,7 +26,7 @@ impl Expr {
     }
 
     /// An operation, which gives a value of that type.
-    #[tactic(auto, using(crate::proofs::Operands::operands))]
+    #[tactic(auto, using(crate::specs::Forms::operands))]
     pub fn operation(operation: Operation, ty: u32, operands: Items<Expr>) -> Expr
         ensures { expression_of result ≡ Operated operation ty (expressions_of operands) }
     {
@@ -34,7 +34,7 @@ impl Expr {
     }
 
     /// A request, which gives a value of that type, or nothing.
-    #[tactic(auto, using(crate::proofs::Operands::operands))]
+    #[tactic(auto, using(crate::specs::Forms::operands))]
     pub fn request(request: Request, ty: Option<u32>, operands: Items<Expr>) -> Expr
         ensures { expression_of result ≡ Requested request ty (expressions_of operands) }
     {
@@ -42,7 +42,7 @@ impl Expr {
     }
 
     /// A change of the cell of type `ty` at a place, by an operation that gives a value of type `own`.
-    #[tactic(auto, using(crate::proofs::Operands::modify_form))]
+    #[tactic(auto, using(crate::specs::Forms::modify_form))]
     pub fn modify(
         alloc: Global,
         operation: Operation,
@@ -60,7 +60,7 @@ impl Expr {
     }
 
     /// `a && b`
-    #[tactic(auto, using(crate::proofs::Operands::and_form))]
+    #[tactic(auto, using(crate::specs::Forms::and_form))]
     pub fn and(alloc: Global, a: Expr, b: Expr) -> Result<Expr, AllocError>
         ensures { IfOk result (λ e. expression_of e ≡ Both (expression_of a) (expression_of b)) }
     {
@@ -70,7 +70,7 @@ impl Expr {
     }
 
     /// `a || b`
-    #[tactic(auto, using(crate::proofs::Operands::or_form))]
+    #[tactic(auto, using(crate::specs::Forms::or_form))]
     pub fn or(alloc: Global, a: Expr, b: Expr) -> Result<Expr, AllocError>
         ensures { IfOk result (λ e. expression_of e ≡ Either (expression_of a) (expression_of b)) }
     {
@@ -80,7 +80,7 @@ impl Expr {
     }
 
     /// `test ? a : b`, of that type.
-    #[tactic(auto, using(crate::proofs::Operands::choice_form))]
+    #[tactic(auto, using(crate::specs::Forms::choice_form))]
     pub fn choice(alloc: Global, test: Expr, ty: u32, a: Expr, b: Expr) -> Result<Expr, AllocError>
         ensures { IfOk result (λ e. expression_of e ≡ Chosen (expression_of test) ty (expression_of a) (expression_of b)) }
     {
@@ -91,7 +91,7 @@ impl Expr {
     }
 
     /// A call of the function of that number.
-    #[tactic(auto, using(crate::proofs::Operands::operands))]
+    #[tactic(auto, using(crate::specs::Forms::operands))]
     pub fn call(function: u32, arguments: Items<Expr>) -> Expr
         ensures { expression_of result ≡ Called function (expressions_of arguments) }
     {
@@ -101,7 +101,7 @@ impl Expr {
 
 impl Stmt {
     /// A block.
-    #[tactic(auto, using(crate::proofs::Operands::block))]
+    #[tactic(auto, using(crate::specs::Forms::block))]
     pub fn block(statements: Items<Stmt>) -> Stmt
         ensures { statement_of result ≡ Compound (statements_of statements) }
     {
@@ -109,7 +109,7 @@ impl Stmt {
     }
 
     /// `if (test) a else b`
-    #[tactic(auto, using(crate::proofs::Operands::if_form))]
+    #[tactic(auto, using(crate::specs::Forms::if_form))]
     pub fn if_else(alloc: Global, test: Expr, a: Stmt, b: Stmt) -> Result<Stmt, AllocError>
         ensures { IfOk result (λ s. statement_of s ≡ Conditional (expression_of test) (statement_of a) (statement_of b)) }
     {
@@ -119,7 +119,7 @@ impl Stmt {
     }
 
     /// A loop that tests before each body, and evaluates `step` after each.
-    #[tactic(auto, using(crate::proofs::Operands::loop_form))]
+    #[tactic(auto, using(crate::specs::Forms::loop_form))]
     pub fn looped(
         alloc: Global,
         test: Option<Expr>,
@@ -132,7 +132,7 @@ impl Stmt {
     }
 
     /// `do body while (test);`
-    #[tactic(auto, using(crate::proofs::Operands::repeat_form))]
+    #[tactic(auto, using(crate::specs::Forms::repeat_form))]
     pub fn repeat(alloc: Global, body: Stmt, test: Expr) -> Result<Stmt, AllocError>
         ensures { IfOk result (λ s. statement_of s ≡ Repeated (statement_of body) (expression_of test)) }
     {

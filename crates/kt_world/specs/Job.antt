@@ -1,6 +1,6 @@
 -- A job: the versions of a program, when updates are asked for, and how many turns a run may take.
 use Rattle.std.specs.Prelude.{ℕ, List, Option, slice_get}
-use Rattle.kt_meaning.specs.Tree.{Version}
+use Rattle.kt_small.specs.Tree.{Version}
 
 pub record Job : Type 0 where
   pub versions : List Version

@@ -1,6 +1,6 @@
 -- What turns keep: a property of worlds that an act, an update, a refusal, and changes beside memory keep.
 use Rattle.std.specs.Prelude.{◌≡◌, ℕ, ◌+◌, List, [], ◌∷◌, Option, Some, None, is_none, Bool, true, false, if◌then◌else◌, slice_get, refl}
-use Rattle.kt_meaning.specs.Tree.{Version}
+use Rattle.kt_small.specs.Tree.{Version}
 use Rattle.kt_world.specs.declared.mark.Phase.{Phase}
 use Rattle.kt_world.specs.declared.mark.Phase.TheVariants.{Run, Asked, Main, Others}
 use Rattle.kt_world.specs.Job.{Job, version_at}

@@ -1,6 +1,6 @@
 -- A job of the code as plain data.
 use Rattle.std.specs.Prelude.{map}
-use Rattle.kt_meaning.specs.Tree.{version_of}
+use Rattle.kt_small.specs.Tree.{version_of}
 use Rattle.kt_world.specs.declared.job.Job.{Job}
 use Rattle.kt_world.specs.Job as plain
 

@@ -1,14 +1,14 @@
 -- Worlds that stand for one another, and go on doing so: each definition of a turn and of an update, same in, same out.
 use Rattle.std.specs.Prelude.{◌≡◌, ℕ, suc, ◌+◌, ◌==◌, List, [], ◌∷◌, Option, Some, None, is_none, Bool, true, false, ◌&&◌, if◌then◌else◌, slice_get, slice_set, refl}
 use Rattle.std.proofs.Common.{sym, subst, ap, ◌∙◌}
-use Rattle.kt_meaning.specs.declared.acts.Act.{Act}
-use Rattle.kt_meaning.specs.declared.acts.Act.TheVariants.{Tick, Load, Store, Print, Point, Automigrate}
-use Rattle.kt_meaning.specs.declared.acts.Mode.{Mode}
-use Rattle.kt_meaning.specs.declared.acts.Mode.TheVariants.{Normal, Updating}
-use Rattle.kt_meaning.specs.declared.acts.Reply.{Reply}
-use Rattle.kt_meaning.specs.declared.acts.Reply.TheVariants.{Done, Got}
-use Rattle.kt_meaning.specs.Steps.{Step, Acts, Traps, Ends, SameHead, AgreeFor, DoesSameActs}
-use Rattle.kt_meaning.specs.Tree.{Version}
+use Rattle.kt_small.specs.declared.acts.Act.{Act}
+use Rattle.kt_small.specs.declared.acts.Act.TheVariants.{Tick, Load, Store, Print, Point, Automigrate}
+use Rattle.kt_small.specs.declared.acts.Mode.{Mode}
+use Rattle.kt_small.specs.declared.acts.Mode.TheVariants.{Normal, Updating}
+use Rattle.kt_small.specs.declared.acts.Reply.{Reply}
+use Rattle.kt_small.specs.declared.acts.Reply.TheVariants.{Done, Got}
+use Rattle.kt_small.specs.Steps.{Step, Acts, Traps, Ends, SameHead, AgreeFor, DoesSameActs}
+use Rattle.kt_small.specs.Tree.{Version}
 use Rattle.kt_world.specs.declared.mark.End.TheVariants as end
 use Rattle.kt_world.specs.declared.mark.Phase.{Phase}
 use Rattle.kt_world.specs.declared.mark.Phase.TheVariants.{Run, Asked, Main, Others}

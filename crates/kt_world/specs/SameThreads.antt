@@ -3,9 +3,9 @@
 use Rattle.std.specs.Prelude.{◌≡◌, ℕ, zero, suc, List, [], ◌∷◌, map, Option, Some, None, option_and_then, Bool, ◌&&◌, slice_get, slice_set, refl}
 use Rattle.std.specs.List.{list_all}
 use Rattle.std.proofs.Common.{ap, ◌∙◌}
-use Rattle.kt_meaning.specs.declared.acts.Reply.TheVariants.{Done}
-use Rattle.kt_meaning.specs.Steps.{Step, Quiet, Acts, Traps, Ends, IsHead, SameHead, AgreeFor, DoesSameActs}
-use Rattle.kt_meaning.specs.Tree.{Version}
+use Rattle.kt_small.specs.declared.acts.Reply.TheVariants.{Done}
+use Rattle.kt_small.specs.Steps.{Step, Quiet, Acts, Traps, Ends, IsHead, SameHead, AgreeFor, DoesSameActs}
+use Rattle.kt_small.specs.Tree.{Version}
 use Rattle.kt_world.specs.World.{Thread}
 use Rattle.kt_world.specs.Update.{point_of_act, point_of, new_point, next_point, passed}
 use Rattle.kt_world.specs.Turn.{is_normal, main_is_normal, is_parked, all_normal, all_parked, is_live}

@@ -2,17 +2,17 @@
 -- and each point one of the version. What is checked of a program, and what its thread keeps.
 use Rattle.std.specs.Prelude.{◌≡◌, ℕ, ◌<◌, ℤ, [], ◌∷◌, Option, Some, None, length, true}
 use Rattle.std.specs.List.{All}
-use Rattle.kt_meaning.specs.declared.acts.Act.{Act}
-use Rattle.kt_meaning.specs.declared.acts.Act.TheVariants.{Tick, Load, Store, Print, Point, Automigrate}
-use Rattle.kt_meaning.specs.declared.acts.Reply.{Reply}
-use Rattle.kt_meaning.specs.declared.acts.Reply.TheVariants.{Done, Got}
-use Rattle.kt_meaning.specs.declared.tree.Operand.{Operand}
-use Rattle.kt_meaning.specs.declared.tree.Operand.TheVariants.{Number, Character, Global}
-use Rattle.kt_meaning.specs.declared.tree.Expr.{Expr}
-use Rattle.kt_meaning.specs.declared.tree.Expr.TheVariants.{Single, Binary}
-use Rattle.kt_meaning.specs.Operators.{fits_int}
-use Rattle.kt_meaning.specs.Tree.{Statement, Assigning, Putting, Returning, Choosing, Looping, Reaching, Migrating, Block, Empty, Then, Version}
-use Rattle.kt_meaning.specs.Thread.{Part, Run, Do, Eval, Have, Right, Left, Assigns, Puts, Returns, Chooses, Loops, Work}
+use Rattle.kt_small.specs.declared.acts.Act.{Act}
+use Rattle.kt_small.specs.declared.acts.Act.TheVariants.{Tick, Load, Store, Print, Point, Automigrate}
+use Rattle.kt_small.specs.declared.acts.Reply.{Reply}
+use Rattle.kt_small.specs.declared.acts.Reply.TheVariants.{Done, Got}
+use Rattle.kt_small.specs.declared.tree.Operand.{Operand}
+use Rattle.kt_small.specs.declared.tree.Operand.TheVariants.{Number, Character, Global}
+use Rattle.kt_small.specs.declared.tree.Expr.{Expr}
+use Rattle.kt_small.specs.declared.tree.Expr.TheVariants.{Single, Binary}
+use Rattle.kt_small.specs.Operators.{fits_int}
+use Rattle.kt_small.specs.Tree.{Statement, Assigning, Putting, Returning, Choosing, Looping, Reaching, Migrating, Block, Empty, Then, Version}
+use Rattle.kt_small.specs.Thread.{Part, Run, Do, Eval, Have, Right, Left, Assigns, Puts, Returns, Chooses, Loops, Work}
 use Rattle.kt_world.specs.Job.{Job, version_at}
 use Rattle.kt_world.specs.World.{Thread, World}
 use Rattle.kt_world.specs.Update.{first_memory}

@@ -4,21 +4,21 @@ use Rattle.std.proofs.Common.{arith, subst}
 use Rattle.std.proofs.lemmas.Bool.{lt-ltb}
 use Rattle.std.specs.Ordering.{int_eq}
 use Rattle.std.specs.Prelude.{int_lt, ◌+ℤ◌, ◌-ℤ◌}
-use Rattle.kt_meaning.specs.declared.acts.Act.TheVariants.{Tick}
-use Rattle.kt_meaning.specs.declared.acts.Reply.{Reply}
-use Rattle.kt_meaning.specs.declared.acts.Reply.TheVariants.{Done, Got}
-use Rattle.kt_meaning.specs.declared.acts.Trap.{Trap}
-use Rattle.kt_meaning.specs.declared.acts.Trap.TheVariants.{Overflow}
-use Rattle.kt_meaning.specs.declared.tree.Operator.{Operator}
-use Rattle.kt_meaning.specs.declared.tree.Operator.TheVariants.{Add, Subtract, Less, Equal}
-use Rattle.kt_meaning.specs.declared.tree.Operand.TheVariants.{Number, Character, Global}
-use Rattle.kt_meaning.specs.declared.tree.Expr.{Expr}
-use Rattle.kt_meaning.specs.declared.tree.Expr.TheVariants.{Single, Binary}
-use Rattle.kt_meaning.specs.Operators.{fits_int, truth, apply, is_zero, byte_of}
-use Rattle.kt_meaning.specs.Tree.{Statement, Assigning, Putting, Returning, Choosing, Looping, Reaching, Migrating, Block, Empty, Then}
-use Rattle.kt_meaning.specs.Thread.{Run, Do, Eval, Have, Right, Left, Assigns, Puts, Returns, Chooses, Loops, Work, value_of, begin_step, eval_step, with_result, take_step, step, settle}
-use Rattle.kt_meaning.specs.Steps.{Step, Quiet, Acts, Traps, Ends, ComesQuietly}
-use Rattle.kt_meaning.specs.TreeSettling.{settle-settles}
+use Rattle.kt_small.specs.declared.acts.Act.TheVariants.{Tick}
+use Rattle.kt_small.specs.declared.acts.Reply.{Reply}
+use Rattle.kt_small.specs.declared.acts.Reply.TheVariants.{Done, Got}
+use Rattle.kt_small.specs.declared.acts.Trap.{Trap}
+use Rattle.kt_small.specs.declared.acts.Trap.TheVariants.{Overflow}
+use Rattle.kt_small.specs.declared.tree.Operator.{Operator}
+use Rattle.kt_small.specs.declared.tree.Operator.TheVariants.{Add, Subtract, Less, Equal}
+use Rattle.kt_small.specs.declared.tree.Operand.TheVariants.{Number, Character, Global}
+use Rattle.kt_small.specs.declared.tree.Expr.{Expr}
+use Rattle.kt_small.specs.declared.tree.Expr.TheVariants.{Single, Binary}
+use Rattle.kt_small.specs.Operators.{fits_int, truth, apply, is_zero, byte_of}
+use Rattle.kt_small.specs.Tree.{Statement, Assigning, Putting, Returning, Choosing, Looping, Reaching, Migrating, Block, Empty, Then}
+use Rattle.kt_small.specs.Thread.{Run, Do, Eval, Have, Right, Left, Assigns, Puts, Returns, Chooses, Loops, Work, value_of, begin_step, eval_step, with_result, take_step, step, settle}
+use Rattle.kt_small.specs.Steps.{Step, Quiet, Acts, Traps, Ends, ComesQuietly}
+use Rattle.kt_small.specs.TreeSettling.{settle-settles}
 use Rattle.kt_world.specs.Typed.{IsInt, IsTypedExpr, IsTypedStatement, IsTypedBlock, IsTypedWork, IsTypedAct, IsTypedReply}
 
 -- ---- numbers

@@ -4,15 +4,15 @@ use Rattle.std.specs.List.{All}
 use Rattle.std.proofs.Common.{sym, subst}
 use Rattle.std.proofs.lemmas.List.Elements.{All-nil, All-cons, All-head, All-tail, All-set, All-map}
 use Rattle.std.proofs.lemmas.Option.{slice_get_within, get_or_from_slice_get}
-use Rattle.kt_meaning.specs.declared.acts.Act.{Act}
-use Rattle.kt_meaning.specs.declared.acts.Act.TheVariants.{Tick, Load, Store, Print, Point, Automigrate}
-use Rattle.kt_meaning.specs.declared.acts.Mode.{Mode}
-use Rattle.kt_meaning.specs.declared.acts.Mode.TheVariants.{Normal, Updating}
-use Rattle.kt_meaning.specs.declared.acts.Reply.{Reply}
-use Rattle.kt_meaning.specs.declared.acts.Reply.TheVariants.{Done, Got}
-use Rattle.kt_meaning.specs.Steps.{Step, Quiet, Acts, Traps, Ends}
-use Rattle.kt_meaning.specs.Thread.{Work, settle}
-use Rattle.kt_meaning.specs.Tree.{Version}
+use Rattle.kt_small.specs.declared.acts.Act.{Act}
+use Rattle.kt_small.specs.declared.acts.Act.TheVariants.{Tick, Load, Store, Print, Point, Automigrate}
+use Rattle.kt_small.specs.declared.acts.Mode.{Mode}
+use Rattle.kt_small.specs.declared.acts.Mode.TheVariants.{Normal, Updating}
+use Rattle.kt_small.specs.declared.acts.Reply.{Reply}
+use Rattle.kt_small.specs.declared.acts.Reply.TheVariants.{Done, Got}
+use Rattle.kt_small.specs.Steps.{Step, Quiet, Acts, Traps, Ends}
+use Rattle.kt_small.specs.Thread.{Work, settle}
+use Rattle.kt_small.specs.Tree.{Version}
 use Rattle.kt_world.specs.declared.mark.Phase.{Phase}
 use Rattle.kt_world.specs.declared.mark.Phase.TheVariants.{Run, Asked, Main, Others}
 use Rattle.kt_world.specs.Job.{Job, version_at}

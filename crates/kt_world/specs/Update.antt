@@ -1,14 +1,14 @@
 -- A closing: what refuses it, and the update (whole-program update as in Kitsune; OOPSLA 2012, section 3).
 use Rattle.std.specs.Prelude.{ℕ, ◌+◌, ℤ, pos, List, [], ◌∷◌, map, Option, Some, None, unwrap_or, option_and_then, option_map, is_none, ◌++◌, if◌then◌else◌, slice_get, bytes_eq}
 use Rattle.std.specs.List.{position}
-use Rattle.kt_meaning.specs.declared.acts.Act.{Act}
-use Rattle.kt_meaning.specs.declared.acts.Act.TheVariants.{Tick, Load, Store, Print, Point, Automigrate}
-use Rattle.kt_meaning.specs.declared.acts.Mode.{Mode}
-use Rattle.kt_meaning.specs.declared.acts.Mode.TheVariants.{Normal, Updating}
-use Rattle.kt_meaning.specs.declared.acts.Reply.TheVariants.{Done}
-use Rattle.kt_meaning.specs.declared.tree.Global.{Global}
-use Rattle.kt_meaning.specs.Steps.{Step, Quiet, Acts, Traps, Ends}
-use Rattle.kt_meaning.specs.Tree.{Version}
+use Rattle.kt_small.specs.declared.acts.Act.{Act}
+use Rattle.kt_small.specs.declared.acts.Act.TheVariants.{Tick, Load, Store, Print, Point, Automigrate}
+use Rattle.kt_small.specs.declared.acts.Mode.{Mode}
+use Rattle.kt_small.specs.declared.acts.Mode.TheVariants.{Normal, Updating}
+use Rattle.kt_small.specs.declared.acts.Reply.TheVariants.{Done}
+use Rattle.kt_small.specs.declared.tree.Global.{Global}
+use Rattle.kt_small.specs.Steps.{Step, Quiet, Acts, Traps, Ends}
+use Rattle.kt_small.specs.Tree.{Version}
 use Rattle.kt_world.specs.declared.mark.Closed.TheVariants as closed
 use Rattle.kt_world.specs.declared.mark.Mark.{Mark}
 use Rattle.kt_world.specs.declared.mark.Mark.TheVariants.{Close}

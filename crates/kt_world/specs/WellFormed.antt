@@ -1,10 +1,10 @@
 -- What holds of each world of a job.
 use Rattle.std.specs.Prelude.{◌≡◌, ℕ, ◌<◌, ◌≤◌, List, [], length, Option, Some, None}
 use Rattle.std.specs.List.{All}
-use Rattle.kt_meaning.specs.declared.acts.Mode.{Mode}
-use Rattle.kt_meaning.specs.declared.acts.Mode.TheVariants.{Normal, Updating}
-use Rattle.kt_meaning.specs.declared.tree.Global.{Global}
-use Rattle.kt_meaning.specs.Tree.{Version}
+use Rattle.kt_small.specs.declared.acts.Mode.{Mode}
+use Rattle.kt_small.specs.declared.acts.Mode.TheVariants.{Normal, Updating}
+use Rattle.kt_small.specs.declared.tree.Global.{Global}
+use Rattle.kt_small.specs.Tree.{Version}
 use Rattle.kt_world.specs.Job.{Job, version_at}
 use Rattle.kt_world.specs.World.{Thread, World}
 

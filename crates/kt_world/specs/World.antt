@@ -1,8 +1,8 @@
 -- A world: what threads share, and the threads. A thread's private state is of a type X: work of the tree, or a state
 -- of the machine. An engine says how it settles and where it begins, by the version in force.
 use Rattle.std.specs.Prelude.{ℕ, ℤ, List, Option}
-use Rattle.kt_meaning.specs.declared.acts.Mode.{Mode}
-use Rattle.kt_meaning.specs.Steps.{Step}
+use Rattle.kt_small.specs.declared.acts.Mode.{Mode}
+use Rattle.kt_small.specs.Steps.{Step}
 use Rattle.kt_world.specs.declared.mark.End.{End}
 use Rattle.kt_world.specs.declared.mark.Mark.{Mark}
 use Rattle.kt_world.specs.declared.mark.Phase.{Phase}

@@ -1,6 +1,6 @@
 //! Jobs.
 
-use kt_meaning::tree::Program;
+use kt_small::tree::Program;
 use sqlite_items::Items;
 
 /// The versions of a program, in order.

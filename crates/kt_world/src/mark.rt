@@ -1,6 +1,6 @@
 //! What the journal says beside the turns, and the phases between.
 
-use kt_meaning::acts::Trap;
+use kt_small::acts::Trap;
 
 /// Where a run stands between an update's request and its end.
 #[derive(Clone, Copy, PartialEq, Eq, Debug)]

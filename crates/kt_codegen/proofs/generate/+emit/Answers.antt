@@ -1,5 +1,5 @@
 use Rattle.std.proofs.Common.{◌++◌, sym, ap, ◌∙◌}
-use Rattle.kt_meaning.specs.Tree.{block_of, statement_of}
+use Rattle.kt_small.specs.Tree.{block_of, statement_of}
 use Rattle.kt_codegen.specs.Code.{expr_code, statement_code, block_code, choice_code, loop_code}
 use Rattle.kt_codegen.proofs.Patch.{choice-patched, loop-patched}
 use Rattle.kt_codegen.proofs.Rows.{statement_of-If, statement_of-While}

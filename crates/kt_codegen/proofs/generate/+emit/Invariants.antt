@@ -1,5 +1,5 @@
 use Rattle.std.proofs.Common.{◌≡◌, ◌++◌, drop}
-use Rattle.kt_meaning.specs.Tree.{block_of}
+use Rattle.kt_small.specs.Tree.{block_of}
 use Rattle.kt_codegen.specs.Code.{block_code}
 use Rattle.kt_codegen.proofs.generate.+emit.Given as goal
 

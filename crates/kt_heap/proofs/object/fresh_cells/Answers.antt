@@ -1,7 +1,6 @@
 use Rattle.std.proofs.Common.{◌≡◌, ℕ, zero, suc, ◌+◌, ◌++◌, List, map, ◌∙◌, ap, add-one, append_assoc, arith}
 use Rattle.std.proofs.lemmas.Grind.{common_steps}
-use Rattle.kt_mem.specs.declared.memory.Cell.{Cell}
-use Rattle.kt_mem.specs.Memory.{fresh_cell, repeated}
+use Rattle.kt_mem.specs.Memory.{Cell, fresh_cell, repeated}
 use Rattle.kt_heap.proofs.object.fresh_cells.Goals as goal
 
 repeated_more : (n : ℕ) (cs : List Cell) → repeated n cs ++ cs ≡ repeated (n + 1) cs

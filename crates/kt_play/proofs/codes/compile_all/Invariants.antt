@@ -1,5 +1,5 @@
 use Rattle.std.proofs.Common.{◌≡◌, length, map, take}
-use Rattle.kt_meaning.specs.Tree.{version_of}
+use Rattle.kt_small.specs.Tree.{version_of}
 use Rattle.kt_play.specs.Acts.{DoTheSameActs}
 use Rattle.kt_play.proofs.codes.compile_all.Given as goal
 

@@ -1,17 +1,25 @@
-use Rattle.std.proofs.Common.{refl, ◌∙◌, arith}
+use Rattle.std.proofs.Common.{◌∙◌, arith}
 use Rattle.std.proofs.lemmas.Result.{err_from_is_err_and}
-use Rattle.kt_play.proofs.FileLemmas.{as_error, unread_later}
+use Rattle.kt_play.proofs.FileLemmas.{as_error, unread_first, unread_second, unread_third}
 use Rattle.kt_play.proofs.prepare.read_texts.Goals as goal
+
+pub returns-in_err-first-clause-cause : goal.returns-in_err-first-clause-cause
+returns-in_err-first-clause-cause g c =
+    let p = err_from_is_err_and c.from_residual.result c.from_residual.ensures.1 in
+    as_error c.from_residual.result p.0 c.in_err-first.field-0.0 _ p.1 p.2
+    (unread_first _ c.args.first.now _ _ _ c.in_err-first.field-0.0 c.in_err-first.ensures.cause)
 
 pub returns-in_err-rules-clause-cause : goal.returns-in_err-rules-clause-cause
 returns-in_err-rules-clause-cause g c =
     let p = err_from_is_err_and c.from_residual-in_err-rules.result c.from_residual-in_err-rules.ensures.1 in
     as_error c.from_residual-in_err-rules.result p.0 c.in_err-rules.field-0.0 _ p.1 p.2
-    (unread_later _ _ c.args.rules.now _ _ _ 1 _ c.in_err-rules.field-0.0 c.read.ensures.same c.read.ensures.later refl c.in_err-rules.ensures.cause)
+    (unread_second _ _ c.args.first.now c.args.rules.now _ _ _ _ _ c.in_err-rules.field-0.0 c.read.ensures.same c.read.ensures.later
+    c.in_ok-first.ensures.whole c.in_err-rules.ensures.cause)
 
 pub returns-in_err-second-clause-cause : goal.returns-in_err-second-clause-cause
 returns-in_err-second-clause-cause g c =
     let p = err_from_is_err_and c.from_residual-in_err-second.result c.from_residual-in_err-second.ensures.1 in
     as_error c.from_residual-in_err-second.result p.0 c.in_err-second.field-0.0 _ p.1 p.2
-    (unread_later _ _ c.args.second.now _ _ _ 2 _ c.in_err-second.field-0.0 (c.read-2.ensures.same ∙ c.read.ensures.same)
-    (omega (arith, c.read.ensures.later, c.read-2.ensures.later)) refl c.in_err-second.ensures.cause)
+    (unread_third _ _ _ c.args.first.now c.args.rules.now c.args.second.now _ _ _ _ _ c.in_err-second.field-0.0 c.read.ensures.same
+    (c.read-2.ensures.same ∙ c.read.ensures.same) (omega (arith, c.read.ensures.later, c.read-2.ensures.later))
+    c.in_ok-first.ensures.whole c.in_ok-rules.ensures.whole c.in_err-second.ensures.cause)

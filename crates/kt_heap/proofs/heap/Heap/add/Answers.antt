@@ -1,6 +1,6 @@
 use Rattle.std.proofs.Common.{◌≡◌, ℕ, ◌+◌, ◌≤◌, List, [], ◌∷◌, ◌++◌, length, None, Some, refl, sym, ◌∙◌, ap, subst, arith}
 use Rattle.std.specs.Option.{option_map}
-use Rattle.kt_mem.specs.declared.memory.Cell.{Cell}
+use Rattle.kt_mem.specs.Memory.{Cell}
 use Rattle.kt_heap.specs.Objects.{shown}
 use Rattle.kt_heap.specs.ByAddress.{obj_at, next_address, IsPut}
 use Rattle.kt_heap.specs.Heap.{memory, given}

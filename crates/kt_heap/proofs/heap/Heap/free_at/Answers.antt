@@ -1,7 +1,6 @@
 use Rattle.std.proofs.Common.{◌≡◌, ◌-◌, List, length, Option, None, Some, IfSome, sym, ◌∙◌, ap, subst, arith}
 use Rattle.std.specs.Option.{option_map}
-use Rattle.kt_mem.specs.declared.memory.Cell.{Cell}
-use Rattle.kt_mem.specs.Memory.{without}
+use Rattle.kt_mem.specs.Memory.{Cell, without}
 use Rattle.kt_heap.specs.declared.object.Obj.{Obj}
 use Rattle.kt_heap.specs.Objects.{shown}
 use Rattle.kt_heap.specs.ByAddress.{obj_at, next_address}

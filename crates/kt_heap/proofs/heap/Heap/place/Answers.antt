@@ -1,5 +1,5 @@
 use Rattle.std.proofs.Common.{◌≡◌, ℕ, ◌+◌, ◌<◌, ◌≤◌, List, [], ◌∷◌, ◌++◌, length, Some, refl, ◌∙◌, ap, arith}
-use Rattle.kt_mem.specs.declared.memory.Cell.{Cell}
+use Rattle.kt_mem.specs.Memory.{Cell}
 use Rattle.kt_heap.specs.ByAddress.{next_address}
 use Rattle.kt_heap.specs.Heap.{memory, place_address}
 use Rattle.kt_heap.specs.Inside.{state_of}

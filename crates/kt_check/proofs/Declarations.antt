@@ -1,0 +1,87 @@
+-- Declarations of locals.
+use Rattle.std.proofs.Common.{nat_le, zero, suc, min, ◌≡◌, ◌==◌, ℕ, ◌+◌, ◌-◌, ◌≤◌, ◌<◌, Bool, true, false, List, [], ◌∷◌, ◌++◌, Option, None, Some, length, map, take, drop, get_or, refl, sym, ap, ◌∙◌, arith, rules, drop-cons, add-one}
+use Rattle.std.specs.List.{list_any, position, position_from}
+use Rattle.std.specs.Str.{bytes_eq}
+use Rattle.std.specs.Global.{Vec}
+use Rattle.std.proofs.lemmas.Cmp.{nat_list_eq_equiv}
+use Rattle.std.proofs.lemmas.Iterator.Adapters.{position_from-zero}
+use Rattle.std.proofs.lemmas.Bool.Decides.{nat_tests}
+use Rattle.std.proofs.lemmas.List.{take_all}
+use Rattle.kt_syntax.specs.declared.tree.LocalDeclarator.{LocalDeclarator}
+use Rattle.kt_syntax.specs.Tree.{local_of}
+use Rattle.kt_check.specs.declared.info.LocalInfo.{LocalInfo}
+use Rattle.kt_check.specs.Uses.{stars_of}
+use Rattle.kt_check.specs.Types.{number_of_struct}
+use Rattle.kt_check.specs.Statements.{contains}
+use Rattle.kt_check.specs.Scopes.{local_names}
+
+-- ---- the number of a struct
+
+names-flip : (a b : List ℕ) → bytes_eq a b ≡ bytes_eq b a
+names-flip a b = nat_list_eq_equiv.symm a b
+
+name-place : (n : ℕ) (keys : List (Vec ℕ)) (name : List ℕ) → position_from (λ m. bytes_eq m name) n (map (λ k. k.items) keys) ≡ position_from (λ k. bytes_eq name k.items) n keys
+name-place n [] name = refl
+name-place n (k ∷ keys) name = rw (names-flip k.items name, name-place (n + 1) keys name) refl
+
+number-by : (keys : List (Vec ℕ)) (name : List ℕ) (o : Option ℕ) → o ≡ position (λ k. bytes_eq name k.items) keys
+    → elim o as (λ _. ℕ) [ None ↦ 0 | (Some n) ↦ n ] ≡ number_of_struct (map (λ k. k.items) keys) name
+number-by keys name o e =
+    ap (λ (p : Option ℕ). elim p as (λ _. ℕ) [ None ↦ 0 | (Some n) ↦ n ]) (e ∙ position_from-zero (λ k. bytes_eq name k.items) keys ∙ sym (name-place 0 keys name))
+
+pub struct-found : (keys : List (Vec ℕ)) (name : List ℕ) (n : ℕ) → Some n ≡ position (λ k. bytes_eq name k.items) keys → n ≡ number_of_struct (map (λ k. k.items) keys) name
+struct-found keys name n e = number-by keys name (Some n) e
+
+pub struct-missing : (keys : List (Vec ℕ)) (name : List ℕ) → None ≡ position (λ k. bytes_eq name k.items) keys → 0 ≡ number_of_struct (map (λ k. k.items) keys) name
+struct-missing keys name e = number-by keys name None e
+
+-- ---- declarators without stars
+
+abbrev pub plain_in : List LocalDeclarator → Bool
+plain_in ds = list_any (λ n. n == 0) (map (λ l. stars_of l.pointer) (map local_of ds))
+
+module _ (ds : List LocalDeclarator) (i : ℕ) (d : LocalDeclarator) (within : i < length ds) (is : d ≡ get_or ds i d) where
+  rest-is : drop i ds ≡ d ∷ drop (i + 1) ds
+  rest-is = rw (drop-cons ds i d within, ← is, add-one) refl
+
+  pub plain-here : stars_of d.pointer ≡ 0 → plain_in (drop i ds) ≡ plain_in ds → true ≡ plain_in ds
+  plain-here e before = sym (ap plain_in rest-is ∙ rw e refl) ∙ before
+
+  pub plain-past : (stars_of d.pointer == 0) ≡ false → plain_in (drop i ds) ≡ plain_in ds → plain_in (drop (i + 1) ds) ≡ plain_in ds
+  plain-past e before = sym (ap plain_in rest-is ∙ rw e refl) ∙ before
+
+-- ---- locals of a name
+
+module _ (ls : List LocalInfo) (name : List ℕ) (i : ℕ) (d : LocalInfo) (within : i < length ls) (is : d ≡ get_or ls i d) where
+  others-are : drop i ls ≡ d ∷ drop (i + 1) ls
+  others-are = rw (drop-cons ls i d within, ← is, add-one) refl
+
+  pub local-here : bytes_eq d.name.now name ≡ true → contains (local_names (drop i ls)) name ≡ contains (local_names ls) name → true ≡ contains (local_names ls) name
+  local-here e before = sym (ap (λ (xs : List LocalInfo). contains (local_names xs) name) others-are ∙ rw e refl) ∙ before
+
+  pub local-past : bytes_eq d.name.now name ≡ false → contains (local_names (drop i ls)) name ≡ contains (local_names ls) name → contains (local_names (drop (i + 1) ls)) name ≡ contains (local_names ls) name
+  local-past e before = sym (ap (λ (xs : List LocalInfo). contains (local_names xs) name) others-are ∙ rw e refl) ∙ before
+
+le-holds : (a b : ℕ) → nat_le a b ≡ true → a ≤ b
+le-holds a b e = grind (arith, nat_tests)
+
+le-fails : (a b : ℕ) → nat_le a b ≡ false → b ≤ a
+le-fails a b e = grind (arith, nat_tests)
+
+take-names : (n : ℕ) (ls : List LocalInfo) → take n (local_names ls) ≡ local_names (take n ls)
+take-names zero ls = refl
+take-names (suc n) [] = refl
+take-names (suc n) (l ∷ ls) = ap (λ (ns : List (List ℕ)). l.name.now ∷ ns) (take-names n ls)
+
+take-most : (n end : ℕ) (ls : List LocalInfo) → (n ≤ length ls → end ≡ n) → (length ls ≤ n → end ≡ length ls) → take end ls ≡ take n ls
+take-most n end ls few many = by (nat_le n (length ls)) refl
+  where
+    by : (b : Bool) → nat_le n (length ls) ≡ b → take end ls ≡ take n ls
+    by true e = rw (few (le-holds n (length ls) e)) refl
+    by false e =
+        let more : length ls ≤ n = le-fails n (length ls) e in
+        rw (many more) (take_all (length ls) ls (omega arith) ∙ sym (take_all n ls more))
+
+-- the names of the first locals
+pub among-is : (ls : List LocalInfo) (n end : ℕ) (name : List ℕ) → end ≡ min (length ls) n → contains (local_names (take end ls)) name ≡ contains (take n (local_names ls)) name
+among-is ls n end name e = rw (take-most n end ls (λ h. omega arith) (λ h. omega arith), take-names n ls) refl

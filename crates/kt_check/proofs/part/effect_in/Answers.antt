@@ -1,0 +1,19 @@
+use Rattle.kt_grammar.specs.Tree.{term_of}
+use Rattle.kt_tree.specs.Tree.{expression_of}
+use Rattle.kt_check.specs.Statements.{effect}
+use Rattle.kt_check.specs.Terms.{typing, first_token}
+use Rattle.kt_check.specs.Views.{environment_of, operand_of}
+use Rattle.kt_check.proofs.Parts.{fails, judges-follows}
+use Rattle.kt_check.proofs.part.effect_in.Goals as goal
+
+pub returns-in-Err : goal.returns-in-Err
+returns-in-Err c =
+    let env = environment_of c.args.env.now in
+    let e = term_of c.args.e.now in
+    fails (typing env e) (effect env (first_token e)) c.in-Err.fault c.in-Err.ensures
+
+pub returns-in-Ok : goal.returns-in-Ok
+returns-in-Ok c =
+    let env = environment_of c.args.env.now in
+    let e = term_of c.args.e.now in
+    judges-follows expression_of c.effect.result (typing env e) (effect env (first_token e)) (operand_of c.in-Ok.operand) c.in-Ok.ensures (rw c.first_token-at.ensures at c.effect.ensures)

@@ -1,0 +1,98 @@
+//! The version of a typed file: its table of types, and all that it declares.
+
+ghost use Rattle.std.specs.Prelude.{◌≡◌, ◌<◌, ◌≤◌, ◌^◌, true, Ok, OnOk, IfOk, map, length};
+ghost use Rattle.std.specs.List.{list_all};
+ghost use Rattle.kt_tree.specs.Names.{is_identifier};
+ghost use Rattle.kt_syntax.specs.Tree.{tree_of};
+ghost use Rattle.kt_tree.specs.Tree.{function_of};
+ghost use Rattle.kt_tree.specs.Version.{IsProgram, program};
+ghost use Rattle.kt_check.specs.Assembly.{program_seen};
+ghost use Rattle.kt_check.specs.Files.{typed_file};
+
+use crate::fault::CheckFault;
+use crate::named::names;
+use crate::points::points;
+use crate::sofar::{Defined, Sofar};
+use crate::table::table;
+use crate::tables::{Named, Texts};
+use kt_syntax::File;
+use kt_tree::{Fun, Functions, GlobalDecl, Globals, Literals, Version};
+use kt_types::{Points, Text, TypeTable};
+use std::alloc::{AllocError, Global};
+
+/// What a typed file declares, for its version.
+#[derive(Drop)]
+pub(crate) struct Assembly {
+    pub defined: Vec<Defined>,
+    pub globals: Vec<GlobalDecl>,
+    pub functions: Vec<Fun>,
+}
+
+/// What is left of a file's declarations for its version.
+pub(crate) fn left_of(sofar: Sofar<'_>) -> Assembly
+    ensures defined { result.defined ≡ sofar.entry.defined }
+    ensures globals { result.globals ≡ sofar.entry.globals }
+    ensures functions { result.functions ≡ sofar.entry.functions }
+{
+    Assembly {
+        defined: sofar.defined,
+        globals: sofar.globals,
+        functions: sofar.functions,
+    }
+}
+
+/// Whether each of so many entries has a number.
+fn numbered(count: usize) -> Result<(), AllocError>
+    ensures { OnOk result (count < 2 ^ 32) }
+{
+    if count > u32::MAX as usize {
+        return Err(AllocError);
+    }
+    Ok(())
+}
+
+/// The version of these parts.
+fn assembled(
+    alloc: Global,
+    table: TypeTable,
+    points: Points,
+    literals: Vec<Text>,
+    parts: Assembly,
+) -> Result<Version, AllocError>
+    requires program { IsProgram (program table parts.globals.items literals.items (map function_of parts.functions.items) points) }
+    requires few { length points.names < 2 ^ 32 }
+    ensures { IfOk result (λ v. v ≡ program table parts.globals.items literals.items (map function_of parts.functions.items) points) }
+{
+    numbered(parts.globals.len())?;
+    numbered(literals.len())?;
+    numbered(parts.functions.len())?;
+    let globals = Globals::from_vec(parts.globals);
+    let literals = Literals::from_vec(literals);
+    let functions = Functions::from_vec(parts.functions);
+    Version::new(alloc, table, globals, literals, functions, points)
+}
+
+/// The version of a file that is typed so.
+pub(crate) fn version(
+    alloc: Global,
+    file: &File,
+    named: &Named,
+    texts: Texts,
+    parts: Assembly,
+) -> Result<Version, AllocError>
+    requires typed { typed_file (tree_of file.now) ≡ Ok (program_seen named.now texts parts) }
+    requires identifiers { list_all is_identifier (map (λ n. n.items) named.now.structs.keys) ≡ true }
+    requires few { length texts.points.keys < 2 ^ 32 }
+    requires within { texts.updates ≤ length texts.points.keys }
+    ensures { IfOk result (λ v. v ≡ program_seen named.now texts parts) }
+{
+    names(file.items.as_slice());
+    let table = table(
+        alloc,
+        &named.structs,
+        &named.types,
+        parts.defined.as_slice(),
+    )?;
+    let points = points(alloc, &texts.points, texts.updates)?;
+    assembled(alloc, table, points, texts.literals, parts)
+}

@@ -1,0 +1,74 @@
+//! What holds in the whole body of a function.
+
+ghost use Rattle.std.specs.Prelude.{◌≡◌};
+ghost use Rattle.kt_check.specs.Statements.{here};
+ghost use Rattle.kt_check.specs.Views.{environment_of};
+ghost use Rattle.kt_check.specs.Scopes.{state_of, body_of, body_by};
+
+use crate::ctype::CType;
+use crate::environment::Environment;
+use crate::info::{FunctionInfo, LocalInfo, Scopes};
+
+/// A function's body: what stands around it, its locals in the order of their declarations, and its result.
+#[derive(Drop)]
+pub(crate) struct Body<'b, 'e, 'f> {
+    pub outside: &'b Environment<'e>,
+    /// The type of each local.
+    pub types: &'b [CType],
+    pub locals: &'b [LocalInfo<'f>],
+    /// The function has `E_NOTELOCALS`.
+    pub noted: bool,
+    pub result: Option<CType>,
+}
+
+impl Body<'_, '_, '_> {
+    /// What names stand for where these are in scope.
+    pub(crate) fn here<'s>(&'s self, scopes: &'s Scopes) -> Environment<'s>
+        ensures { environment_of result ≡ here (body_of self.now) (state_of scopes.now) }
+    {
+        Environment {
+            alloc: self.outside.alloc,
+            names: self.outside.names,
+            types: self.outside.types,
+            structs: self.outside.structs,
+            outer: self.outside.outer,
+            literals: self.outside.literals,
+            points: self.outside.points,
+            locals: self.types,
+            noted: self.noted,
+            visible: scopes.visible.as_slice(),
+        }
+    }
+    /// What names stand for before its parameters.
+    pub(crate) fn around(&self) -> Environment<'_>
+        ensures { environment_of result ≡ (body_of self.now).environment }
+    {
+        Environment {
+            alloc: self.outside.alloc,
+            names: self.outside.names,
+            types: self.outside.types,
+            structs: self.outside.structs,
+            outer: self.outside.outer,
+            literals: self.outside.literals,
+            points: self.outside.points,
+            locals: self.types,
+            noted: self.noted,
+            visible: self.outside.visible,
+        }
+    }
+}
+
+impl<'f> FunctionInfo<'f> {
+    /// The body of this function, seen from outside functions.
+    pub(crate) fn body<'b, 'e>(&'b self, outside: &'b Environment<'e>) -> Body<'b, 'e, 'f>
+        ensures { body_of result ≡ body_by (environment_of outside.now) self.now }
+    {
+        Body {
+            outside,
+            types: self.types.as_slice(),
+            locals: self.locals.as_slice(),
+            noted: self.noted,
+            result: self.result,
+        }
+    }
+}

@@ -1,0 +1,246 @@
+//! Globals (ISO/IEC 9899:2011, 6.9.2).
+
+ghost use Rattle.std.specs.Prelude.{◌≡◌, ◌==◌, Ok, true, IfOk, map};
+ghost use Rattle.std.specs.List.{list_any};
+ghost use Rattle.kt_check.specs.Uses.{stars_of};
+ghost use Rattle.kt_check.specs.Checked.{and_then};
+ghost use Rattle.kt_check.specs.Judges.{Judges};
+ghost use Rattle.kt_check.specs.Statements.{declarator_place, base_for, pointer_outside};
+ghost use Rattle.kt_check.specs.Files.{outside, outer_name, is_array_count, global, with_global, globals_from, globals};
+ghost use Rattle.kt_check.specs.Views.{environment_of};
+ghost use Rattle.kt_check.specs.Stages.{frame_seen, sofar_of, Keeps, right, behind_right, init_parts, once_parts, named_parts, global_parts, once_seen, named_seen, global_seen, global_decl};
+
+use crate::builtin::builtin_named;
+use crate::counted::{elements, global_fits};
+use crate::extent::{holds, pointer_outside, view_of};
+use crate::fault::CheckFault;
+use crate::frame::Frame;
+use crate::initial::initial_of;
+use crate::judged::both;
+use crate::outside::stars_of;
+use crate::routine::base_for;
+use crate::sofar::Sofar;
+use kt_grammar::{Base, Name};
+use kt_syntax::{GlobalDeclarator, Pointer};
+use kt_tree::{GlobalDecl, Init};
+use kt_types::Text;
+
+/// The name of a global or function is no built-in call's.
+pub(crate) fn outer_name(name: &Name) -> Result<(), CheckFault>
+    ensures { Judges right result (outer_name name.now) }
+{
+    let other = builtin_named(name.word.as_bytes()).is_none();
+    holds(other, CheckFault::Twice { at: name.at })
+}
+
+/// The place of a declarator's first token.
+pub(crate) fn declarator_place(pointer: &Option<Pointer>, name: &Name) -> u32
+    ensures { result ≡ declarator_place pointer.now name.now }
+{
+    match pointer {
+        None => name.at,
+        Some(pointer) => pointer.stars.at,
+    }
+}
+
+/// A global's size, and its initial value.
+fn init_parts(
+    frame: &Frame<'_>,
+    sofar: &Sofar<'_>,
+    base: &Base,
+    g: &GlobalDeclarator,
+) -> Result<((), Init), CheckFault>
+    ensures { Judges (behind_right (λ x. x)) result (init_parts (frame_seen frame.now) (sofar_of sofar.now) base.now g.now) }
+{
+    let declarator = &g.declarator;
+    let t = frame.declared_type(base, &declarator.pointer);
+    let cells = frame.outside(sofar).cells_of(t);
+    let fits = global_fits(&declarator.count, cells, sofar.cells);
+    let at = declarator_place(&declarator.pointer, &declarator.name);
+    let array = declarator.count.is_some();
+    let fault = CheckFault::TooBig {
+        at: declarator.name.at,
+    };
+    both(
+        holds(fits, fault),
+        initial_of(frame, t, array, at, &g.initial),
+    )
+}
+
+/// That its name is new, and these.
+fn once_parts(
+    frame: &Frame<'_>,
+    sofar: &Sofar<'_>,
+    base: &Base,
+    g: &GlobalDeclarator,
+) -> Result<((), ((), Init)), CheckFault>
+    requires { Keeps (frame_seen frame.now).names sofar.now }
+    ensures { Judges once_seen result (once_parts (frame_seen frame.now) (sofar_of sofar.now) base.now g.now) }
+{
+    let name = &g.declarator.name;
+    let is_new = !sofar.has_name(name.word.as_bytes());
+    let once = holds(is_new, CheckFault::Twice { at: name.at });
+    both(once, init_parts(frame, sofar, base, g))
+}
+
+/// That its name is no built-in call's, and these.
+fn named_parts(
+    frame: &Frame<'_>,
+    sofar: &Sofar<'_>,
+    base: &Base,
+    g: &GlobalDeclarator,
+) -> Result<((), ((), ((), Init))), CheckFault>
+    requires { Keeps (frame_seen frame.now).names sofar.now }
+    ensures { Judges named_seen result (named_parts (frame_seen frame.now) (sofar_of sofar.now) base.now g.now) }
+{
+    both(
+        outer_name(&g.declarator.name),
+        once_parts(frame, sofar, base, g),
+    )
+}
+
+/// How much it points to, and these.
+fn global_parts(
+    frame: &Frame<'_>,
+    sofar: &Sofar<'_>,
+    base: &Base,
+    g: &GlobalDeclarator,
+) -> Result<((), ((), ((), ((), Init)))), CheckFault>
+    requires { Keeps (frame_seen frame.now).names sofar.now }
+    ensures { Judges global_seen result (global_parts (frame_seen frame.now) (sofar_of sofar.now) base.now g.now) }
+{
+    let env = frame.outside(sofar);
+    let outside = pointer_outside(&env, &g.declarator.pointer);
+    both(outside, named_parts(frame, sofar, base, g))
+}
+
+/// A global that was judged.
+fn global_decl(
+    frame: &Frame<'_>,
+    sofar: &Sofar<'_>,
+    base: &Base,
+    g: &GlobalDeclarator,
+    init: Init,
+) -> Result<GlobalDecl, CheckFault>
+    requires counted { is_array_count g.now.declarator.count ≡ true }
+    requires viewed { pointer_outside (outside (frame_seen frame.now) (sofar_of sofar.now)) g.now.declarator.pointer ≡ Ok tt }
+    ensures { Judges (λ x. x) result (Ok (global_decl (frame_seen frame.now) base.now g.now init)) }
+{
+    let declarator = &g.declarator;
+    let t = frame.declared_type(base, &declarator.pointer);
+    let env = frame.outside(sofar);
+    let view = view_of(&env, base, &declarator.pointer);
+    let name = Vec::from_slice(frame.alloc, declarator.name.word.as_bytes())?;
+    Ok(GlobalDecl {
+        name: Text::from_vec(name),
+        ty: frame.types.place(t),
+        count: elements(&declarator.count),
+        array: declarator.count.is_some(),
+        view,
+        init,
+    })
+}
+
+/// A global.
+fn global(
+    frame: &Frame<'_>,
+    sofar: &Sofar<'_>,
+    base: &Base,
+    g: &GlobalDeclarator,
+) -> Result<GlobalDecl, CheckFault>
+    requires { Keeps (frame_seen frame.now).names sofar.now }
+    ensures { Judges (λ x. x) result (global (frame_seen frame.now) (sofar_of sofar.now) base.now g.now) }
+{
+    let (_, (_, (_, (_, init)))) = global_parts(frame, sofar, base, g)?;
+    global_decl(frame, sofar, base, g, init)
+}
+
+/// A global more.
+fn with_global<'f>(
+    frame: &Frame<'_>,
+    sofar: Sofar<'f>,
+    base: &Base,
+    g: &GlobalDeclarator,
+    decl: GlobalDecl,
+) -> Result<Sofar<'f>, CheckFault>
+    requires keeps { Keeps (frame_seen frame.now).names sofar }
+    requires right { global (frame_seen frame.now) (sofar_of sofar) base.now g.now ≡ Ok decl }
+    ensures sofar { Judges sofar_of result (Ok (with_global (frame_seen frame.now) (sofar_of sofar.entry) base.now g.now decl)) }
+    ensures keeps { IfOk result (λ s. Keeps (frame_seen frame.now).names s) }
+{
+    let mut now = sofar;
+    let t = frame.declared_type(base, &g.declarator.pointer);
+    let cells = frame.cells_of(&now, t);
+    let name = Vec::from_slice(frame.alloc, g.declarator.name.word.as_bytes())?;
+    now.global_names.insert(name)?;
+    now.cells += decl.count * cells;
+    now.globals.push(decl)?;
+    Ok(now)
+}
+
+/// A declarator of a global.
+#[tactic(auto, using(crate::proofs::Parts::parts))]
+fn declared<'f>(
+    frame: &Frame<'_>,
+    sofar: Sofar<'f>,
+    base: &Base,
+    g: &GlobalDeclarator,
+) -> Result<Sofar<'f>, CheckFault>
+    requires keeps { Keeps (frame_seen frame.now).names sofar }
+    ensures sofar { Judges sofar_of result (and_then (global (frame_seen frame.now) (sofar_of sofar.entry) base.now g.now) (λ d. Ok (with_global (frame_seen frame.now) (sofar_of sofar.entry) base.now g.now d))) }
+    ensures keeps { IfOk result (λ s. Keeps (frame_seen frame.now).names s) }
+{
+    let decl = global(frame, &sofar, base, g)?;
+    with_global(frame, sofar, base, g, decl)
+}
+
+/// Declarators of globals of one base.
+fn globals_from<'f>(
+    frame: &Frame<'_>,
+    sofar: Sofar<'f>,
+    base: &Base,
+    declarators: &[GlobalDeclarator],
+) -> Result<Sofar<'f>, CheckFault>
+    requires keeps { Keeps (frame_seen frame.now).names sofar }
+    ensures sofar { Judges sofar_of result (globals_from (frame_seen frame.now) (sofar_of sofar.entry) base.now declarators.now) }
+    ensures keeps { IfOk result (λ s. Keeps (frame_seen frame.now).names s) }
+{
+    let mut now = sofar;
+    for declarator in declarators {
+        match declared(frame, now, base, declarator) {
+            Ok(next) => now = next,
+            Err(fault) => return Err(fault),
+        }
+    }
+    Ok(now)
+}
+
+/// Whether one of these has no star.
+fn has_plain(declarators: &[GlobalDeclarator]) -> bool
+    ensures { result ≡ list_any (λ n. n == 0) (map (λ g. stars_of g.declarator.pointer) declarators.now) }
+{
+    for g in declarators {
+        if stars_of(&g.declarator.pointer) == 0 {
+            return true;
+        }
+    }
+    false
+}
+
+/// Globals of one base.
+#[tactic(auto, using(crate::proofs::Parts::parts))]
+pub(crate) fn globals<'f>(
+    frame: &Frame<'_>,
+    sofar: Sofar<'f>,
+    base: &Base,
+    declarators: &[GlobalDeclarator],
+) -> Result<Sofar<'f>, CheckFault>
+    requires keeps { Keeps (frame_seen frame.now).names sofar }
+    ensures sofar { Judges sofar_of result (globals (frame_seen frame.now) (sofar_of sofar.entry) base.now declarators.now) }
+    ensures keeps { IfOk result (λ s. Keeps (frame_seen frame.now).names s) }
+{
+    match base_for(frame, &sofar, base, has_plain(declarators)) {
+        Ok(()) => globals_from(frame, sofar, base, declarators),
+        Err(fault) => Err(fault),
+    }
+}

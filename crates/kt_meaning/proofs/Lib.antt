@@ -1,0 +1,11 @@
+pub mod EffectTypes
+pub mod MemoryTypes
+pub mod OperationTypes
+pub mod RequestTypes
+pub mod Rows
+pub mod Settling
+pub mod StepTypes
+pub mod Texts
+pub mod ThreadLaws
+pub mod TreeSettling
+pub mod WorkTypes

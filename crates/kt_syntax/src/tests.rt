@@ -1,0 +1,6 @@
+mod damaged;
+mod depth;
+mod print_expr;
+mod print_file;
+mod trees;
+mod verdict;
