@@ -63,8 +63,6 @@ mod table;
 mod tables;
 mod taken;
 mod term;
-#[cfg(test)]
-mod tests;
 mod types;
 mod unary;
 mod uses;

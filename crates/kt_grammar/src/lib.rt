@@ -17,8 +17,6 @@ mod spelled;
 mod stands;
 mod stands_for;
 mod symbol;
-#[cfg(test)]
-mod tests;
 mod tree;
 mod types;
 mod unary;

@@ -10,6 +10,3 @@ mod thread;
 pub use laws::{act_law, effect_law, entry_law, order_law, settle_law, worked_programs_law};
 pub use part::{Part, Use, Waiting};
 pub use thread::{Parts, TreeFrame, TreeFrames, TreeThread};
-
-#[cfg(test)]
-mod tests;

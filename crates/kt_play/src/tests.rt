@@ -1,4 +1,10 @@
-//! The worked programs over the devices in memory, and each device failing in turn.
+//! The worked programs over the devices in memory, and each device failing in turn. The modules below have the tables of the
+//! crates that stand below: grammar, syntax trees, typing, threads.
+
+mod grammar;
+mod syntax;
+mod threads;
+mod typing;
 
 use crate::play::play;
 use crate::status::{Cause, Status, Which};

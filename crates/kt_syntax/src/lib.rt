@@ -16,8 +16,6 @@ mod places;
 mod pointer;
 mod stands;
 mod statement;
-#[cfg(test)]
-mod tests;
 mod tree;
 
 pub use fault::SyntaxFault;

@@ -1,4 +1,6 @@
-use super::{BinaryOperator, Dialect, Expr, Fault, expr, symbols};
+//! Texts of expressions, with the kinds of the expression and of its parts, or the fault.
+
+use kt_grammar::{BinaryOperator, Dialect, Expr, Fault, expr, symbols};
 use kt_lex::lex;
 use std::alloc::Global;
 use std::test::Fail;

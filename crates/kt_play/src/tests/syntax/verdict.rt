@@ -1,8 +1,8 @@
 //! What `parse` answers of a text.
 
-use super::super::{File, SyntaxFault, parse};
 use super::print_file::file;
 use kt_lex::lex;
+use kt_syntax::{File, SyntaxFault, parse};
 use std::alloc::{AllocError, Global};
 
 fn read(alloc: Global, bytes: &[u8]) -> Result<File, SyntaxFault> {

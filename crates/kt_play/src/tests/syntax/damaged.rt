@@ -1,7 +1,7 @@
 //! Files that are none. A backtick, which is not of the file, stands before the token where that is told.
 
-use super::super::SyntaxFault;
 use super::verdict::verdict;
+use kt_syntax::SyntaxFault;
 use std::alloc::Global;
 use std::test::Fail;
 

@@ -1,5 +1,7 @@
 //! A thread in code, and the laws called.
-use super::*;
+use kt_meaning::{
+    Part, Parts, TreeFrame, TreeFrames, TreeThread, effect_law, order_law, worked_programs_law,
+};
 use kt_mem::{KeptLocals, Mode, Value, Values};
 use std::test::Fail;
 

@@ -1,7 +1,7 @@
 //! What `check` answers of a file. A row is the answer, and behind it the file, where a backtick, which is not of the file,
 //! stands before the token at which a fault is told.
 
-use super::check;
+use kt_check::check;
 use kt_lex::lex;
 use kt_syntax::{File, SyntaxFault, parse};
 use std::alloc::{AllocError, Global};

@@ -1,11 +1,11 @@
 //! Files as text.
 
-use super::super::tree::{
+use super::print_expr::{Written, base, name, number, quoted, stars, written};
+use kt_grammar::{Expr, Name};
+use kt_syntax::{
     Constant, Declarator, Extent, Fields, File, ForStart, Function, GlobalDeclarator, Item,
     LocalDeclarator, Locals, Parameter, Pointer, Stmt,
 };
-use super::print_expr::{Written, base, name, number, quoted, stars, written};
-use kt_grammar::{Expr, Name};
 
 /// How many expressions or statements may be inside each other.
 const DEEPEST: u32 = 20;

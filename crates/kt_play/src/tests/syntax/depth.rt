@@ -1,7 +1,7 @@
 //! Files as deep as they may be, and deeper by one. The body of the function begins at byte 9, where one construct is open.
 
-use super::super::SyntaxFault;
 use super::verdict::verdict;
+use kt_syntax::SyntaxFault;
 use std::alloc::{AllocError, Global};
 use std::test::Fail;
 

@@ -1,5 +1,5 @@
 use Rattle.std.proofs.Common.{◌+◌, ◌*◌}
-use Rattle.kt_syntax.proofs.tests.print_expr.+printing.Given as goal
+use Rattle.kt_play.proofs.tests.syntax.print_expr.+printing.Given as goal
 
 abbrev pub decreases-arguments : goal.decreases-arguments
 decreases-arguments l = 4 * l.left + 2

@@ -1,5 +1,5 @@
 use Rattle.std.proofs.Common.{◌+◌, ◌*◌}
-use Rattle.kt_syntax.proofs.tests.print_file.+printing.Given as goal
+use Rattle.kt_play.proofs.tests.syntax.print_file.+printing.Given as goal
 
 abbrev pub decreases-before_last : goal.decreases-before_last
 decreases-before_last l = 3 * l.left + 2

@@ -1,3 +1,5 @@
+//! What `parse` answers: trees, depths, and places of faults.
+
 mod damaged;
 mod depth;
 mod print_expr;
