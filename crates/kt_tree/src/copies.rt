@@ -1,5 +1,5 @@
 //! Copies of trees.
-ghost use Rattle.std.specs.Prelude.{◌≡◌, IfOk};
+ghost use Rattle.std.specs.Prelude.{◌≡◌, Ok, IfOk};
 
 use super::expr::{Expr, Part, Request};
 use super::function::Fun;
@@ -68,28 +68,45 @@ pub fn copy_expr(expr: &Expr, alloc: Global) -> Result<Expr, AllocError>
         Expr::Operation(operation, ty, operands) => {
             Ok(Expr::Operation(*operation, *ty, copy_exprs(operands, alloc)?))
         }
-        Expr::Request(request, ty, operands) => Ok(Expr::Request(
-            copy_request(alloc, request)?,
-            *ty,
-            copy_exprs(operands, alloc)?,
-        )),
-        Expr::Modify(operation, own, ty, old, place, operand) => Ok(Expr::Modify(
-            *operation,
-            *own,
-            *ty,
-            *old,
-            copy_boxed(place, alloc)?,
-            copy_boxed(operand, alloc)?,
-        )),
-        Expr::And(a, b) => Ok(Expr::And(copy_boxed(a, alloc)?, copy_boxed(b, alloc)?)),
-        Expr::Or(a, b) => Ok(Expr::Or(copy_boxed(a, alloc)?, copy_boxed(b, alloc)?)),
-        Expr::Choice(test, ty, a, b) => Ok(Expr::Choice(
-            copy_boxed(test, alloc)?,
-            *ty,
-            copy_boxed(a, alloc)?,
-            copy_boxed(b, alloc)?,
-        )),
+        Expr::Request(request, ty, operands) => {
+            let (request, operands) = both(
+                copy_request(alloc, request),
+                copy_exprs(operands, alloc),
+            )?;
+            Ok(Expr::Request(request, *ty, operands))
+        }
+        Expr::Modify(operation, own, ty, old, place, operand) => {
+            let (place, operand) = both(copy_boxed(place, alloc), copy_boxed(operand, alloc))?;
+            Ok(Expr::Modify(*operation, *own, *ty, *old, place, operand))
+        }
+        Expr::And(a, b) => {
+            let (a, b) = both(copy_boxed(a, alloc), copy_boxed(b, alloc))?;
+            Ok(Expr::And(a, b))
+        }
+        Expr::Or(a, b) => {
+            let (a, b) = both(copy_boxed(a, alloc), copy_boxed(b, alloc))?;
+            Ok(Expr::Or(a, b))
+        }
+        Expr::Choice(test, ty, a, b) => {
+            let (a, b) = both(copy_boxed(a, alloc), copy_boxed(b, alloc))?;
+            let test = copy_boxed(test, alloc);
+            let (test, (a, b)) = both(test, Ok((a, b)))?;
+            Ok(Expr::Choice(test, *ty, a, b))
+        }
         Expr::Call(function, arguments) => Ok(Expr::Call(*function, copy_exprs(arguments, alloc)?)),
+    }
+}
+
+// Two copies, where both were made.
+fn both<A: Drop, B: Drop>(
+    a: Result<A, AllocError>,
+    b: Result<B, AllocError>,
+) -> Result<(A, B), AllocError>
+    ensures { IfOk result (λ p. (a ≡ Ok p.0) × (b ≡ Ok p.1)) }
+{
+    match (a, b) {
+        (Ok(a), Ok(b)) => Ok((a, b)),
+        _ => Err(AllocError),
     }
 }
 
