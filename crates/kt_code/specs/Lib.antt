@@ -1,0 +1,5 @@
+pub mod Agreement
+pub mod Code
+pub mod Machine
+pub mod Requests
+pub mod Settling

@@ -1,0 +1,25 @@
+//! The private state of a thread.
+ghost use Rattle.std.specs.Prelude.{◌≡◌, IfOk};
+
+use crate::frame::Frames;
+use crate::operands::Operands;
+use kt_mem::{Act, KeptLocals, Mode, Trap};
+use std::alloc::AllocError;
+
+/// All of a thread that it touches alone: the number of its version, its frames and operands, and what an update left.
+#[derive(Drop)]
+pub struct Private {
+    pub version: u8,
+    pub frames: Frames,
+    pub operands: Operands,
+    pub mode: Mode,
+    /// The kept values of locals.
+    pub locals: KeptLocals,
+}
+
+/// What a thread has come to after its quiet steps.
+#[derive(Debug, Drop)]
+pub enum Head {
+    Act(Act),
+    Trap(Trap),
+}
