@@ -1,0 +1,29 @@
+-- How threads of the tree and of code look, and the two kinds of threads.
+use Rattle.std.specs.Prelude.{List, map}
+use Rattle.kt_meaning.specs.Thread.{Thread, Frame as TreeFrame}
+use Rattle.kt_meaning.specs.TreeSteps.{Version, step as tree_step}
+use Rattle.kt_code.specs.Agreement.{Called, Look, Kind}
+use Rattle.kt_code.specs.Code.{Code}
+use Rattle.kt_code.specs.Machine.{step as code_step}
+use Rattle.kt_code.specs.declared.frame.Frame.{Frame}
+use Rattle.kt_code.specs.declared.private.Private.{Private}
+
+abbrev pub tree_call : TreeFrame → Called
+tree_call f = record { function = f.function; locals = f.locals }
+
+abbrev pub code_call : Frame → Called
+code_call f = record { function = f.function; locals = f.locals }
+
+abbrev pub tree_look : Thread → Look
+tree_look t = record { calls = map tree_call t.frames; restart = t.restart }
+
+abbrev pub code_look : Private → Look
+code_look p = record { calls = map code_call p.frames; restart = record { mode = p.mode; kept = p.locals } }
+
+-- the threads of a version's trees
+abbrev pub tree_threads : Version → Kind
+tree_threads s = record { State = Thread; step = tree_step s; look = tree_look }
+
+-- those of code
+abbrev pub code_threads : Code → Kind
+code_threads c = record { State = Private; step = code_step c; look = code_look }
