@@ -1,6 +1,7 @@
 pub mod Agreement
 pub mod AgreementLaws
 pub mod Code
+pub mod Frames
 pub mod Looks
 pub mod Machine
 pub mod Requests

@@ -17,6 +17,21 @@ pub struct Private {
     pub locals: KeptLocals,
 }
 
+impl Private {
+    /// A state that equals this one.
+    pub fn copy(&self) -> Result<Private, AllocError>
+        ensures { IfOk result (λ p. p ≡ self.now) }
+    {
+        Ok(Private {
+            version: self.version,
+            frames: self.frames.clone()?,
+            operands: self.operands.clone()?,
+            mode: self.mode,
+            locals: self.locals.clone()?,
+        })
+    }
+}
+
 /// What a thread has come to after its quiet steps.
 #[derive(Debug, Drop)]
 pub enum Head {

@@ -1,0 +1,15 @@
+//! Laws of code, each the contract of a function that does nothing.
+ghost use Rattle.kt_meaning.specs.Steps.{Settles};
+ghost use Rattle.kt_code.specs.Machine.{step};
+ghost use Rattle.kt_code.specs.Settling.{settle};
+
+use crate::code::Code;
+use crate::private::Private;
+
+/// From every private state settling ends after finitely many quiet steps in exactly one act, trap or end, whatever
+/// the state is.
+pub fn settle_law(code: &Code, private: &Private)
+    ensures { Settles (step code.now) private.now (settle code.now private.now) }
+{
+    let _jumps = code.instrs();
+}
