@@ -13,7 +13,7 @@ use Rattle.kt_tree.specs.declared.expr.Request.{Request}
 use Rattle.kt_meaning.specs.Steps.{Step, Quiet, Acts, Traps, Ends, IsHead, IsLowering, Settles}
 use Rattle.kt_meaning.specs.Requests.{act_of}
 use Rattle.kt_meaning.specs.Thread.{defined_if}
-use Rattle.kt_meaning.proofs.Settling.{settle_by-settles}
+use Rattle.kt_meaning.proofs.Settling.{settle_by-quiet, settle_by-rests, settle_by-settles}
 use Rattle.kt_code.specs.Code.{Code}
 use Rattle.kt_code.specs.Machine.{Here, frame_here, stands, passes, goes_back, with_local, goes, gives, tested, on_top, on_two, on_list, unary, binary, swaps, asks, calls, falls_to, main_returns, returns, leaves, do_one, instr_step, here, frames_step, step}
 use Rattle.kt_code.specs.Requests.{operand_count, untyped}
@@ -152,10 +152,10 @@ below-lower instrs x = omega arith
 
 one-lowers : (instrs : List Instr) (entries : List ℕ) (i : Instr) (x : Here) (ops : List Value) → IsJump instrs x.at i →
     Lowers instrs (before_one instrs i x) (do_one entries i x ops)
-one-lowers instrs entries (instr.Number n) x ops h = goes-lowers instrs x _
-one-lowers instrs entries instr.Null x ops h = goes-lowers instrs x _
-one-lowers instrs entries (instr.Global g) x ops h = goes-lowers instrs x _
-one-lowers instrs entries (instr.Literal n) x ops h = goes-lowers instrs x _
+one-lowers instrs entries (instr.Number n) x ops h = goes-lowers instrs x ops
+one-lowers instrs entries instr.Null x ops h = goes-lowers instrs x ops
+one-lowers instrs entries (instr.Global g) x ops h = goes-lowers instrs x ops
+one-lowers instrs entries (instr.Literal n) x ops h = goes-lowers instrs x ops
 one-lowers instrs entries (instr.Read n) x ops h = gives-lowers instrs x ops _
 one-lowers instrs entries (instr.Set n) x ops h =
     on-top-lowers instrs (before instrs x) _ ops (λ v rest. goes-lowers instrs (with_local x n v) (v ∷ rest))
@@ -255,3 +255,12 @@ step-IsLowering c jumps = record {
 pub settle-settles : (c : Code) → HasJumps c.instrs → (p : Private) → Settles (step c) p (settle c p)
 unfolding settle
 settle-settles c jumps p = settle_by-settles (step c) (weight c) (step-IsLowering c jumps) p
+
+-- settling passes a quiet step, and stays at any other
+pub settle-quiet : (c : Code) → HasJumps c.instrs → (x y : Private) → step c x ≡ Quiet y → settle c x ≡ settle c y
+unfolding settle
+settle-quiet c jumps x y e = settle_by-quiet (step c) (weight c) (step-IsLowering c jumps) x y e
+
+pub settle-rests : (c : Code) (x : Private) → IsHead (step c x) → settle c x ≡ x
+unfolding settle
+settle-rests c x h = settle_by-rests (step c) (weight c) x h
