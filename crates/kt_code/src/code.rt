@@ -1,0 +1,158 @@
+//! Code.
+ghost use Rattle.std.specs.Prelude.{◌≡◌, ◌++◌, OnOk, OnErr};
+ghost use Rattle.kt_code.specs.Settling.{HasJumps};
+
+use crate::instr::Instr;
+use kt_types::Points;
+use std::alloc::AllocError;
+use std::marker::Model;
+
+/// A list of instructions.
+#[derive(Debug, Drop)]
+pub struct Instrs {
+    items: Vec<Instr>,
+}
+
+impl Model for Instrs {
+    ghost use Rattle.std.specs.Prelude.{List};
+    ghost use Rattle.kt_code.specs.declared.instr.Instr.{Instr};
+
+    ghost Value = { List Instr };
+
+    ghost view = { λ i. i.items.items };
+}
+
+impl Instrs {
+    /// The list of these instructions.
+    pub fn from_vec(items: Vec<Instr>) -> Instrs
+        ensures { result ≡ items.items }
+    {
+        Instrs { items }
+    }
+
+    /// The instructions, as the vector that holds them.
+    pub fn into_vec(self) -> Vec<Instr>
+        ensures { result.items ≡ self }
+    {
+        self.items
+    }
+
+    /// The instructions.
+    pub fn as_slice(&self) -> &[Instr]
+        ensures { result.now ≡ self.now }
+    {
+        self.items.as_slice()
+    }
+
+    /// Puts more instructions behind these.
+    fn append(&mut self, more: Vec<Instr>) -> Result<(), AllocError>
+        ensures ok { OnOk result (self.new ≡ self.old ++ more.items) }
+        ensures err { OnErr result (self.new ≡ self.old) }
+    {
+        let mut more = more;
+        self.items.append(&mut more)
+    }
+}
+
+/// For each function the place of its first instruction.
+#[derive(Debug, Drop)]
+pub struct Entries {
+    items: Vec<u32>,
+}
+
+impl Model for Entries {
+    ghost use Rattle.std.specs.Prelude.{List, ℕ};
+
+    ghost Value = { List ℕ };
+
+    ghost view = { λ e. e.items.items };
+}
+
+impl Entries {
+    /// The list of these places.
+    pub fn from_vec(items: Vec<u32>) -> Entries
+        ensures { result ≡ items.items }
+    {
+        Entries { items }
+    }
+
+    /// The places, as the vector that holds them.
+    pub fn into_vec(self) -> Vec<u32>
+        ensures { result.items ≡ self }
+    {
+        self.items
+    }
+
+    /// The places.
+    pub fn as_slice(&self) -> &[u32]
+        ensures { result.now ≡ self.now }
+    {
+        self.items.as_slice()
+    }
+}
+
+/// The instructions of a version, where its functions begin, and the names of its points. Each jump forward stays within
+/// the code, and each jump back goes to a tick.
+#[derive(Drop)]
+pub struct Code {
+    instrs: Instrs,
+    entries: Entries,
+    points: Points,
+}
+
+impl Model for Code {
+    ghost use Rattle.kt_code.specs.Code.{Code as Content};
+    ghost use Rattle.kt_code.specs.Settling.{HasJumps};
+
+    ghost Value = { Content };
+
+    ghost view = { λ c. record { instrs = c.instrs; entries = c.entries; points = c.points } };
+
+    ghost invariant = { λ c. HasJumps c.instrs };
+}
+
+impl Code {
+    /// The code of these instructions.
+    pub fn new(instrs: Instrs, entries: Entries, points: Points) -> Code
+        requires { HasJumps instrs }
+        ensures { result ≡ record { instrs = instrs; entries = entries; points = points } }
+    {
+        Code {
+            instrs,
+            entries,
+            points,
+        }
+    }
+
+    /// The instructions.
+    pub fn instrs(&self) -> &[Instr]
+        ensures value { result.now ≡ self.now.instrs }
+        ensures jumps { HasJumps self.now.instrs }
+    {
+        self.instrs.as_slice()
+    }
+
+    /// For each function the place of its first instruction.
+    pub fn entries(&self) -> &[u32]
+        ensures { result.now ≡ self.now.entries }
+    {
+        self.entries.as_slice()
+    }
+
+    /// The names of the points.
+    pub fn points(&self) -> &Points
+        ensures { result.now ≡ self.now.points }
+    {
+        &self.points
+    }
+
+    /// Puts more instructions behind these.
+    pub fn append(&mut self, more: Vec<Instr>) -> Result<(), AllocError>
+        requires { HasJumps (self.old.instrs ++ more.items) }
+        ensures ok { OnOk result (self.new ≡ record self.old { instrs = self.old.instrs ++ more.items }) }
+        ensures err { OnErr result (self.new ≡ self.old) }
+    {
+        self.instrs.append(more)?;
+        Ok(())
+    }
+}

@@ -1,0 +1,156 @@
+//! Open calls.
+ghost use Rattle.std.specs.Prelude.{◌≡◌, [], ◌∷◌, length, reverse, drop, slice_set, MatchOption, OnOk, OnErr};
+ghost use Rattle.kt_code.specs.Frames.{with_place, with_first_local, first_local};
+
+use kt_mem::{Value, Values};
+use std::alloc::{AllocError, Global};
+use std::marker::Model;
+use std::mem;
+
+/// A call that is open: the number of the function, the place of its next instruction, and the values of its locals.
+#[derive(Debug, Drop)]
+pub struct Frame {
+    pub function: u32,
+    pub at: u32,
+    pub locals: Values,
+}
+
+impl Clone for Frame {
+    ghost is_clone = { λ a b. b ≡ a };
+
+    fn clone(&self) -> Result<Frame, AllocError> {
+        Ok(Frame {
+            function: self.function,
+            at: self.at,
+            locals: self.locals.clone()?,
+        })
+    }
+}
+
+/// The open calls of a thread, seen as a list with the latest first.
+#[derive(Debug, Drop)]
+pub struct Frames {
+    // The latest call stands last.
+    items: Vec<Frame>,
+}
+
+impl Model for Frames {
+    ghost use Rattle.std.specs.Prelude.{List, reverse};
+    ghost use Rattle.kt_code.specs.declared.frame.Frame.{Frame};
+
+    ghost Value = { List Frame };
+
+    ghost view = { λ f. reverse f.items.items };
+}
+
+impl Frames {
+    /// No call.
+    pub fn new(alloc: Global) -> Frames
+        ensures { result ≡ [] }
+    {
+        Frames {
+            items: Vec::new(alloc),
+        }
+    }
+
+    /// The list of these frames, of which the latest call stands last.
+    pub fn from_vec(items: Vec<Frame>) -> Frames
+        ensures { result ≡ reverse items.items }
+    {
+        Frames { items }
+    }
+
+    /// The frames, as the vector that holds them. The latest call stands last.
+    pub fn into_vec(self) -> Vec<Frame>
+        ensures { result.items ≡ reverse self }
+    {
+        self.items
+    }
+
+    /// The frames, of which the latest call stands last.
+    pub fn as_slice(&self) -> &[Frame]
+        ensures { result.now ≡ reverse self.now }
+    {
+        self.items.as_slice()
+    }
+
+    /// How many calls are open.
+    pub fn count(&self) -> usize
+        ensures { result ≡ length self.now }
+    {
+        self.items.len()
+    }
+
+    /// The frame of the latest call.
+    pub fn first(&self) -> Option<&Frame>
+        ensures { MatchOption result (self.now ≡ []) (λ f. self.now ≡ f.now ∷ drop 1 self.now) }
+    {
+        self.items.last()
+    }
+
+    /// Opens a call.
+    pub fn push(&mut self, frame: Frame) -> Result<(), AllocError>
+        ensures ok { OnOk result (self.new ≡ frame ∷ self.old) }
+        ensures err { OnErr result (self.new ≡ self.old) }
+    {
+        self.items.push(frame)?;
+        Ok(())
+    }
+
+    /// Closes the latest call.
+    pub fn pop(&mut self) -> Option<Frame>
+        ensures { MatchOption result ((self.old ≡ []) × (self.new ≡ [])) (λ f. self.old ≡ f ∷ self.new) }
+    {
+        self.items.pop()
+    }
+
+    /// The latest call goes on at this place.
+    pub fn go_to(&mut self, at: u32)
+        ensures { self.new ≡ with_place at self.old }
+    {
+        let Some(last) = self.items.len().checked_sub(1) else {
+            return;
+        };
+        self.items[last].at = at;
+    }
+
+    /// What a local of the latest call holds.
+    pub fn local(&self, n: u32) -> Option<Value>
+        ensures { result ≡ first_local self.now n }
+    {
+        let frame = self.first()?;
+        frame.locals.as_slice().get(n as usize).copied()
+    }
+
+    /// A local of the latest call takes a value.
+    pub fn set_local(&mut self, n: u32, value: Value)
+        ensures { self.new ≡ with_first_local n value self.old }
+    {
+        let Some(last) = self.items.len().checked_sub(1) else {
+            return;
+        };
+        let alloc = *self.items.allocator();
+        set(alloc, &mut self.items[last].locals, n, value);
+    }
+}
+
+// The value at a place becomes another; where there is none, nothing changes.
+fn set(alloc: Global, values: &mut Values, n: u32, value: Value)
+    ensures { values.new ≡ slice_set values.old n value }
+{
+    let mut items = mem::replace(values, Values::from_vec(Vec::new(alloc))).into_vec();
+    if let Some(item) = items.get_mut(n as usize) {
+        *item = value;
+    }
+    *values = Values::from_vec(items);
+}
+
+impl Clone for Frames {
+    ghost is_clone = { λ a b. b ≡ a };
+
+    fn clone(&self) -> Result<Frames, AllocError> {
+        Ok(Frames {
+            items: self.items.clone()?,
+        })
+    }
+}

@@ -1,0 +1,2 @@
+pub mod ExpressionCode
+pub mod Generates
