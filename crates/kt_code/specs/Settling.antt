@@ -1,5 +1,5 @@
 -- Settling: the quiet steps up to the next act, trap or end. Each jump back goes to a tick, so they are finitely many.
-use Rattle.std.specs.Prelude.{◌≡◌, ℕ, suc, ◌+◌, ◌-◌, ◌≤◌, Bool, true, false, IsTrue, List, [], ◌∷◌, length, slice_get, Option, None, Some, if◌then◌else◌}
+use Rattle.std.specs.Prelude.{◌≡◌, ℕ, zero, suc, ◌+◌, ◌-◌, ◌≤◌, Bool, true, false, IsTrue, List, [], ◌∷◌, length, slice_get, Option, None, Some, if◌then◌else◌}
 use Rattle.kt_mem.specs.declared.steps.Act.{Act}
 use Rattle.kt_mem.specs.declared.steps.Act.TheVariants as act
 use Rattle.kt_mem.specs.declared.steps.Reply.{Reply}
@@ -81,7 +81,7 @@ FitsHead P (Ends a) = IsTrue (is_last a)
 
 -- on all lists of fewer than n replies
 abbrev pub FitsFor : Code → ℕ → Private → Type 0
-FitsFor c 0 p = Unit {0}
+FitsFor c zero p = Unit {0}
 FitsFor c (suc n) p = FitsHead (FitsFor c n) (step c (settle c p))
 
 -- a private state fits code where, on all lists of replies of the acts' kinds, it settles in acts that there are

@@ -43,6 +43,15 @@ impl Instrs {
     {
         self.items.as_slice()
     }
+
+    /// Puts more instructions behind these.
+    fn append(&mut self, more: Vec<Instr>) -> Result<(), AllocError>
+        ensures ok { OnOk result (self.new ≡ self.old ++ more.items) }
+        ensures err { OnErr result (self.new ≡ self.old) }
+    {
+        let mut more = more;
+        self.items.append(&mut more)
+    }
 }
 
 /// For each function the place of its first instruction.
@@ -143,7 +152,7 @@ impl Code {
         ensures ok { OnOk result (self.new ≡ record self.old { instrs = self.old.instrs ++ more.items }) }
         ensures err { OnErr result (self.new ≡ self.old) }
     {
-        let mut more = more;
-        self.instrs.items.append(&mut more)
+        self.instrs.append(more)?;
+        Ok(())
     }
 }

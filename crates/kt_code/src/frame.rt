@@ -108,16 +108,17 @@ impl Frames {
     pub fn go_to(&mut self, at: u32)
         ensures { self.new ≡ with_place at self.old }
     {
-        if let Some(frame) = self.items.last_mut() {
-            frame.at = at;
-        }
+        let Some(last) = self.items.len().checked_sub(1) else {
+            return;
+        };
+        self.items[last].at = at;
     }
 
     /// What a local of the latest call holds.
     pub fn local(&self, n: u32) -> Option<Value>
         ensures { result ≡ first_local self.now n }
     {
-        let frame = self.items.last()?;
+        let frame = self.first()?;
         frame.locals.as_slice().get(n as usize).copied()
     }
 
@@ -125,10 +126,11 @@ impl Frames {
     pub fn set_local(&mut self, n: u32, value: Value)
         ensures { self.new ≡ with_first_local n value self.old }
     {
+        let Some(last) = self.items.len().checked_sub(1) else {
+            return;
+        };
         let alloc = *self.items.allocator();
-        if let Some(frame) = self.items.last_mut() {
-            set(alloc, &mut frame.locals, n, value);
-        }
+        set(alloc, &mut self.items[last].locals, n, value);
     }
 }
 

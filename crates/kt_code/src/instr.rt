@@ -4,6 +4,9 @@ use kt_tree::Request;
 use kt_types::Ty;
 use sqlite_items::Boxed;
 
+// Code is read an instruction at a time.
+const _: () = prove!(size_of::<Instr>() <= 16);
+
 /// One instruction. Values are taken from the operands and put onto them, the topmost first. A jump tells how many
 /// instructions it passes, or how many it goes back, from the instruction behind it.
 #[derive(Debug, Drop)]

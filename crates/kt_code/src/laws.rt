@@ -11,5 +11,5 @@ use crate::private::Private;
 pub fn settle_law(code: &Code, private: &Private)
     ensures { Settles (step code.now) private.now (settle code.now private.now) }
 {
-    let _jumps = code.instrs();
+    let _ = code.instrs();
 }

@@ -17,3 +17,6 @@ pub use instr::Instr;
 pub use laws::settle_law;
 pub use operands::{Operand, Operands};
 pub use private::{Head, Private};
+
+#[cfg(test)]
+mod tests;

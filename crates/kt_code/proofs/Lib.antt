@@ -1,0 +1,3 @@
+pub mod CodeSettling
+pub mod FirstFrame
+pub mod Turned
