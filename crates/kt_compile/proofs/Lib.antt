@@ -1,0 +1,10 @@
+pub mod Agreeing
+pub mod Calls
+pub mod Entries
+pub mod Jumps
+pub mod Mains
+pub mod Places
+pub mod StatementTypes
+pub mod Statements
+pub mod Version
+pub mod VersionJumps
