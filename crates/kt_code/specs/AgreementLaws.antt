@@ -29,14 +29,28 @@ module _ (A B : Kind) where
 
   settled-left : (Q : A.State → B.State → Type 0) (x z : A.State) (y : B.State) → A.step x ≡ Quiet z → Settled A B Q z y → Settled A B Q x y
   settled-left Q x z y e h = record {
-    left = h.left; right = h.right; left_count = suc h.left_count; right_count = h.right_count;
-    left_comes = (z, e, h.left_comes); right_comes = h.right_comes; look = h.look; head = h.head; onward = h.onward
+    left = h.left;
+    right = h.right;
+    left_count = suc h.left_count;
+    right_count = h.right_count;
+    left_comes = (z, e, h.left_comes);
+    right_comes = h.right_comes;
+    look = h.look;
+    head = h.head;
+    onward = h.onward;
   }
 
   settled-right : (Q : A.State → B.State → Type 0) (x : A.State) (y z : B.State) → B.step y ≡ Quiet z → Settled A B Q x z → Settled A B Q x y
   settled-right Q x y z e h = record {
-    left = h.left; right = h.right; left_count = h.left_count; right_count = suc h.right_count;
-    left_comes = h.left_comes; right_comes = (z, e, h.right_comes); look = h.look; head = h.head; onward = h.onward
+    left = h.left;
+    right = h.right;
+    left_count = h.left_count;
+    right_count = suc h.right_count;
+    left_comes = h.left_comes;
+    right_comes = (z, e, h.right_comes);
+    look = h.look;
+    head = h.head;
+    onward = h.onward;
   }
 
   -- ---- quiet steps
@@ -71,31 +85,37 @@ module _ (A B : Kind) where
   agree-acts (suc n) x y a f g d e l h =
       let here : n < suc n = omega arith in
       settled-here (λ p q. OnAnswers (Agree A B n) (A.step p) (B.step q)) x y l
-        (put-heads (A.step x) (Acts a f) (B.step y) (Acts a g) d e refl)
-        (put-answers (Agree A B n) (A.step x) (Acts a f) (B.step y) (Acts a g) d e (h n here))
+      (put-heads (A.step x) (Acts a f) (B.step y) (Acts a g) d e refl)
+      (put-answers (Agree A B n) (A.step x) (Acts a f) (B.step y) (Acts a g) d e (h n here))
 
   pub agree-traps : (n : ℕ) (x : A.State) (y : B.State) (t : Trap) → A.step x ≡ Traps t → B.step y ≡ Traps t → A.look x ≡ B.look y → Agree A B n x y
   agree-traps zero x y t d e l = tt
   agree-traps (suc n) x y t d e l =
       settled-here (λ p q. OnAnswers (Agree A B n) (A.step p) (B.step q)) x y l
-        (put-heads (A.step x) (Traps t) (B.step y) (Traps t) d e refl)
-        (put-answers (Agree A B n) (A.step x) (Traps t) (B.step y) (Traps t) d e tt)
+      (put-heads (A.step x) (Traps t) (B.step y) (Traps t) d e refl)
+      (put-answers (Agree A B n) (A.step x) (Traps t) (B.step y) (Traps t) d e tt)
 
   pub agree-ends : (n : ℕ) (x : A.State) (y : B.State) (a : Act) → A.step x ≡ Ends a → B.step y ≡ Ends a → A.look x ≡ B.look y → Agree A B n x y
   agree-ends zero x y a d e l = tt
   agree-ends (suc n) x y a d e l =
       settled-here (λ p q. OnAnswers (Agree A B n) (A.step p) (B.step q)) x y l
-        (put-heads (A.step x) (Ends a) (B.step y) (Ends a) d e refl)
-        (put-answers (Agree A B n) (A.step x) (Ends a) (B.step y) (Ends a) d e tt)
+      (put-heads (A.step x) (Ends a) (B.step y) (Ends a) d e refl)
+      (put-answers (Agree A B n) (A.step x) (Ends a) (B.step y) (Ends a) d e tt)
 
   -- ---- fewer replies
 
   pub agree-fewer : (n : ℕ) (x : A.State) (y : B.State) → Agree A B (suc n) x y → Agree A B n x y
   agree-fewer zero x y h = tt
   agree-fewer (suc n) x y h = record {
-    left = h.left; right = h.right; left_count = h.left_count; right_count = h.right_count;
-    left_comes = h.left_comes; right_comes = h.right_comes; look = h.look; head = h.head;
-    onward = fewer-answers (Agree A B (suc n)) (Agree A B n) (agree-fewer n) (A.step h.left) (B.step h.right) h.onward
+    left = h.left;
+    right = h.right;
+    left_count = h.left_count;
+    right_count = h.right_count;
+    left_comes = h.left_comes;
+    right_comes = h.right_comes;
+    look = h.look;
+    head = h.head;
+    onward = fewer-answers (Agree A B (suc n)) (Agree A B n) (agree-fewer n) (A.step h.left) (B.step h.right) h.onward;
   }
 
   fewer-by : (k m n : ℕ) (x : A.State) (y : B.State) → n ≡ k + m → Agree A B n x y → Agree A B m x y
@@ -122,17 +142,30 @@ module _ (A B : Kind) where
 
   agree-on : (rs : List Reply) (x : A.State) (y : B.State) → Agree A B (suc (length rs)) x y → AgreeOn A B rs x y
   agree-on [] x y h = record {
-    left = h.left; right = h.right; left_count = h.left_count; right_count = h.right_count;
-    left_comes = h.left_comes; right_comes = h.right_comes; look = h.look; head = h.head; onward = tt
+    left = h.left;
+    right = h.right;
+    left_count = h.left_count;
+    right_count = h.right_count;
+    left_comes = h.left_comes;
+    right_comes = h.right_comes;
+    look = h.look;
+    head = h.head;
+    onward = tt;
   }
   agree-on (r ∷ rs) x y h =
       let there : Agree A B (suc (suc (length rs))) h.left h.right =
-          settled-here (λ p q. OnAnswers (Agree A B (suc (length rs))) (A.step p) (B.step q)) h.left h.right h.look h.head h.onward in
+      settled-here (λ p q. OnAnswers (Agree A B (suc (length rs))) (A.step p) (B.step q)) h.left h.right h.look h.head h.onward in
       let here : AgreeOn A B rs h.left h.right = agree-on rs h.left h.right (agree-fewer (suc (length rs)) h.left h.right there) in
       record {
-        left = h.left; right = h.right; left_count = h.left_count; right_count = h.right_count;
-        left_comes = h.left_comes; right_comes = h.right_comes; look = h.look; head = h.head;
-        onward = answered-list rs r h.left h.right (A.step h.left) (B.step h.right) h.head h.onward here (agree-on rs)
+        left = h.left;
+        right = h.right;
+        left_count = h.left_count;
+        right_count = h.right_count;
+        left_comes = h.left_comes;
+        right_comes = h.right_comes;
+        look = h.look;
+        head = h.head;
+        onward = answered-list rs r h.left h.right (A.step h.left) (B.step h.right) h.head h.onward here (agree-on rs);
       }
 
   -- agreement by the number of replies gives the same acts on all lists of them

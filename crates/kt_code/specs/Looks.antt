@@ -1,8 +1,8 @@
 -- How threads of the tree and of code look, and the two kinds of threads.
-use Rattle.std.specs.Prelude.{List, map}
+use Rattle.std.specs.Prelude.{ℕ, map}
 use Rattle.kt_meaning.specs.Thread.{Thread, Frame as TreeFrame}
 use Rattle.kt_meaning.specs.TreeSteps.{Version, step as tree_step}
-use Rattle.kt_code.specs.Agreement.{Called, Look, Kind}
+use Rattle.kt_code.specs.Agreement.{Called, Look, Kind, DoesSameActs, Agree}
 use Rattle.kt_code.specs.Code.{Code}
 use Rattle.kt_code.specs.Machine.{step as code_step}
 use Rattle.kt_code.specs.declared.frame.Frame.{Frame}
@@ -27,3 +27,9 @@ tree_threads s = record { State = Thread; step = tree_step s; look = tree_look }
 -- those of code
 abbrev pub code_threads : Code → Kind
 code_threads c = record { State = Private; step = code_step c; look = code_look }
+
+-- a thread of a tree and one of code that agree on all numbers of replies do the same acts on all lists of them
+abbrev pub AgreementIsSameActs : Type 0
+AgreementIsSameActs =
+    (s : Version) (c : Code) (x : Thread) (y : Private) → ((n : ℕ) → Agree (tree_threads s) (code_threads c) n x y) →
+    DoesSameActs (tree_threads s) (code_threads c) x y

@@ -14,7 +14,7 @@ mod private;
 pub use code::{Code, Entries, Instrs};
 pub use frame::{Frame, Frames};
 pub use instr::Instr;
-pub use laws::settle_law;
+pub use laws::{agreement_law, settle_law};
 pub use operands::{Operand, Operands};
 pub use private::{Head, Private};
 

@@ -1,27 +1,25 @@
 -- Steps of the tree and of code side by side: a value or a trap, a request, a test, a call.
-use Rattle.std.proofs.Common.{◌≡◌, ℕ, suc, ◌+◌, ◌<◌, ◌≤◌, Bool, true, false, nat_le, if◌then◌else◌, List, [], ◌∷◌, length, map, slice_get, Option, Some, None, Result, Ok, Err, refl, sym, ap, ◌∙◌, subst, arith}
+use Rattle.std.proofs.Common.{◌≡◌, ℕ, suc, ◌<◌, Bool, true, false, if◌then◌else◌, List, ◌∷◌, length, slice_get, Some, Result, Ok, Err, sym, ap, ◌∙◌, subst, arith}
 use Rattle.std.proofs.lemmas.List.{length-map}
 use Rattle.kt_mem.specs.declared.memory.Value.{Value}
 use Rattle.kt_mem.specs.declared.steps.Act.{Act}
 use Rattle.kt_mem.specs.declared.steps.Act.TheVariants as act
-use Rattle.kt_mem.specs.declared.steps.Reply.{Reply}
 use Rattle.kt_mem.specs.declared.steps.Trap.{Trap}
 use Rattle.kt_mem.specs.declared.steps.Trap.TheVariants as trap
 use Rattle.kt_tree.specs.declared.expr.Request.{Request}
 use Rattle.kt_tree.specs.Tree.{Function}
 use Rattle.kt_meaning.specs.Requests.{told, request_value}
-use Rattle.kt_meaning.specs.Steps.{Step, Quiet, Acts, Traps}
-use Rattle.kt_meaning.specs.Thread.{Have, Work, Frame as TreeFrame, Restart, Context, at, restart_after, locals_after, with_local}
+use Rattle.kt_meaning.specs.Steps.{Acts, Traps}
+use Rattle.kt_meaning.specs.Thread.{Have, Work, Frame as TreeFrame, Context, at, restart_after, locals_after, with_local}
 use Rattle.kt_meaning.specs.TreeSteps.{Version, step as tree_step, goes as tree_goes, gives as tree_gives, asks as tree_asks, tested as tree_tested, swap_step, enter}
-use Rattle.kt_code.specs.Agreement.{Called, Look, Agree}
-use Rattle.kt_code.specs.AgreementLaws.{agree-left, agree-right, agree-both, agree-acts, agree-traps}
+use Rattle.kt_code.specs.Agreement.{Called, Look}
+use Rattle.kt_code.specs.AgreementLaws.{agree-both, agree-acts, agree-traps}
 use Rattle.kt_code.specs.Code.{Code}
 use Rattle.kt_code.specs.Looks.{tree_call, code_call, tree_look, code_look, tree_threads, code_threads}
-use Rattle.kt_code.specs.Machine.{Here, stands, goes, gives, asks, tested, swaps, entry_frame, enters, instr_step, do_one, step}
+use Rattle.kt_code.specs.Machine.{stands, goes, gives, asks, tested, swaps, entry_frame, enters, instr_step, do_one, step}
 use Rattle.kt_code.specs.declared.frame.Frame.{Frame}
 use Rattle.kt_code.specs.declared.instr.Instr.{Instr}
-use Rattle.kt_code.specs.declared.private.Private.{Private}
-use Rattle.kt_genexpr.specs.Generates.{LookAlike, beside, later, AgreeAt, After, DoesCall}
+use Rattle.kt_genexpr.specs.Generates.{LookAlike, beside, AgreeAt, After, DoesCall}
 
 -- a look whose first function is that of the context
 abbrev look_over : Context → List Called → Look
@@ -64,15 +62,15 @@ module _ (s : Version) (c : Code) where
       agree-traps (tree_threads s) (code_threads c) n _ _ t d e (look-alike x u below p used alike)
 
   -- a tested value decides both sides alike
-  pub tested-agree : (r : Result Bool Trap) (n : ℕ) (x : Context) (u zero other : Work) (below : List Frame) (p zero_at other_at : ℕ) (used zero_ops other_ops : List Value) →
-      LookAlike x.below below → tree_step s (at x u) ≡ tree_tested r (tree_goes x zero) (tree_goes x other) →
-      step c (stands (beside s x below p) used) ≡ tested r (goes (beside s x below zero_at) zero_ops) (goes (beside s x below other_at) other_ops) →
-      AgreeAt s c n x zero below zero_at zero_ops → AgreeAt s c n x other below other_at other_ops → AgreeAt s c n x u below p used
-  tested-agree (Ok true) n x u zero other below p zero_at other_at used zero_ops other_ops alike d e k l =
+  pub tested-agree : (r : Result Bool Trap) (n : ℕ) (x : Context) (u w0 w1 : Work) (below : List Frame) (p p0 p1 : ℕ) (used ops0 ops1 : List Value) →
+      LookAlike x.below below → tree_step s (at x u) ≡ tree_tested r (tree_goes x w0) (tree_goes x w1) →
+      step c (stands (beside s x below p) used) ≡ tested r (goes (beside s x below p0) ops0) (goes (beside s x below p1) ops1) →
+      AgreeAt s c n x w0 below p0 ops0 → AgreeAt s c n x w1 below p1 ops1 → AgreeAt s c n x u below p used
+  tested-agree (Ok true) n x u w0 w1 below p p0 p1 used ops0 ops1 alike d e k l =
       agree-both (tree_threads s) (code_threads c) n _ _ _ _ d e k
-  tested-agree (Ok false) n x u zero other below p zero_at other_at used zero_ops other_ops alike d e k l =
+  tested-agree (Ok false) n x u w0 w1 below p p0 p1 used ops0 ops1 alike d e k l =
       agree-both (tree_threads s) (code_threads c) n _ _ _ _ d e l
-  tested-agree (Err t) n x u zero other below p zero_at other_at used zero_ops other_ops alike d e k l =
+  tested-agree (Err t) n x u w0 w1 below p p0 p1 used ops0 ops1 alike d e k l =
       agree-traps (tree_threads s) (code_threads c) n _ _ t d e (look-alike x u below p used alike)
 
   -- a local takes a value, and gives the one that it had

@@ -1,5 +1,5 @@
 -- Each form of expression: where code does its operands, it does the whole.
-use Rattle.std.proofs.Common.{◌≡◌, ℕ, suc, ◌+◌, ◌<◌, ◌≤◌, ◌==◌, Bool, true, false, nat_le, if◌then◌else◌, List, [], ◌∷◌, ◌++◌, length, reverse, slice_get, Some, Result, Ok, Err, refl, sym, ap, ◌∙◌, arith}
+use Rattle.std.proofs.Common.{◌≡◌, ℕ, suc, ◌+◌, ◌≤◌, true, false, nat_le, if◌then◌else◌, List, [], ◌∷◌, ◌++◌, length, reverse, slice_get, Some, refl, sym, ap, ◌∙◌, arith}
 use Rattle.kt_mem.specs.declared.memory.Value.{Value}
 use Rattle.kt_mem.specs.declared.steps.Act.TheVariants as act
 use Rattle.kt_mem.specs.declared.steps.Trap.TheVariants as trap
@@ -21,7 +21,7 @@ use Rattle.kt_code.specs.Looks.{tree_threads, code_threads}
 use Rattle.kt_code.specs.Machine.{Here, goes, gives, asks, calls, entry_frame, enters, do_one}
 use Rattle.kt_code.specs.declared.frame.Frame.{Frame}
 use Rattle.kt_code.specs.declared.instr.Instr.TheVariants as instr
-use Rattle.kt_genexpr.specs.ExpressionCode.{count, constant_code, operation_code, request_code, locals_of}
+use Rattle.kt_genexpr.specs.ExpressionCode.{count, constant_code, operation_code, request_code}
 use Rattle.kt_genexpr.specs.Generates.{LookAlike, beside, later, AgreeAt, DoesExpr, DoesExprs, HasCall}
 use Rattle.kt_genexpr.proofs.Agreeing.{same-depth, there, moved, gives-agree, asks-agree, tested-agree, swaps-agree, calls-agree}
 use Rattle.kt_genexpr.proofs.RequestCode.{on-all}

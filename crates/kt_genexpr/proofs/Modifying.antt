@@ -1,7 +1,6 @@
 -- `x op= e`: the load, the operand, the operation, the conversion and the store.
-use Rattle.std.proofs.Common.{◌≡◌, ℕ, suc, ◌+◌, ◌<◌, ◌≤◌, ◌==◌, Bool, true, false, if◌then◌else◌, List, [], ◌∷◌, ◌++◌, length, reverse, slice_get, Option, Some, None, Result, Ok, Err, refl, ap, ◌∙◌, arith}
+use Rattle.std.proofs.Common.{◌≡◌, ℕ, suc, ◌+◌, ◌==◌, Bool, true, false, if◌then◌else◌, List, [], ◌∷◌, ◌++◌, length, slice_get, Some, Result, Ok, Err, refl, ap, ◌∙◌, arith}
 use Rattle.kt_types.specs.declared.kinds.Ty.{Ty}
-use Rattle.kt_types.specs.Table.{Table}
 use Rattle.kt_mem.specs.declared.memory.Value.{Value}
 use Rattle.kt_mem.specs.declared.steps.Act.TheVariants as act
 use Rattle.kt_mem.specs.declared.steps.Trap.{Trap}
@@ -9,7 +8,7 @@ use Rattle.kt_mem.specs.Arithmetic.{narrowed}
 use Rattle.kt_mem.specs.Memory.{and_then}
 use Rattle.kt_tree.specs.declared.expr.Operation.{Operation}
 use Rattle.kt_tree.specs.Tree.{Expression, Modified}
-use Rattle.kt_meaning.specs.Operations.{at_type, apply_operation, converted, changed}
+use Rattle.kt_meaning.specs.Operations.{at_type, apply_operation, converted}
 use Rattle.kt_meaning.specs.Requests.{load_act, store_act, told}
 use Rattle.kt_meaning.specs.Thread.{Fetches, Changes, Eval, Have, Wait, Work, Context, at}
 use Rattle.kt_meaning.specs.TreeSteps.{Version, step as tree_step, fetch_step, store_step, change_step}
@@ -122,4 +121,4 @@ module _ (s : Version) (c : Code) (op : Operation) (own t : ℕ) (old : Bool) (i
       (there s c there' below (operation_at q operand) used (operation_code s.program.types op own) end.0
       ∙ fact (beside s there' below (suc (operation_at q operand))) (told reply) v (kept_below old (told reply) (pointer ∷ ops)))
       end.1
-      (λ k le''' locals'' r'' z. after k (omega arith) locals'' r'' z)))))))
+      (λ k le''' locals'' r'' z. after k (omega arith) locals'' r'' z))))))

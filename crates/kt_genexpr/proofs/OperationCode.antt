@@ -1,5 +1,5 @@
 -- An operation's instruction gives what the operation gives, for as many operands as typing says.
-use Rattle.std.proofs.Common.{◌≡◌, ℕ, zero, suc, ◌==◌, ◌&&◌, ◌||◌, Bool, true, false, cond, List, [], ◌∷◌, ◌++◌, length, reverse, take, slice_get, option_and_then, Option, Some, None, Result, Ok, Err, refl, sym, ap, ◌∙◌, subst, arith, ◌⊎◌, inl, inr}
+use Rattle.std.proofs.Common.{◌≡◌, ℕ, ◌==◌, ◌&&◌, ◌||◌, Bool, true, false, cond, List, [], ◌∷◌, ◌++◌, length, reverse, take, slice_get, option_and_then, Option, Some, None, Result, refl, sym, ap, ◌∙◌, subst, arith, ◌⊎◌, inl, inr}
 use Rattle.std.specs.Option.{is_some}
 use Rattle.std.proofs.lemmas.Bool.{false≢true, and_parts, or_cases, eqb-true}
 use Rattle.kt_types.specs.declared.kinds.FieldDecl.{FieldDecl}
@@ -13,7 +13,7 @@ use Rattle.kt_mem.specs.Comparisons.{equal_value, not_equal_value, not_value, le
 use Rattle.kt_mem.specs.Elements.{element_before, elements_between}
 use Rattle.kt_tree.specs.declared.expr.Operation.{Operation}
 use Rattle.kt_tree.specs.declared.expr.Operation.TheVariants as operation
-use Rattle.kt_tree.specs.Kinds.{Scope, is_integer_type, pointee_of, long_type, int_type, is_integer, is_scalar, is_pointer, common, is_operation, points_to_struct, points_to_field, field_at}
+use Rattle.kt_tree.specs.Kinds.{Scope, is_integer_type, pointee_of, long_type, is_integer, is_scalar, is_pointer, common, is_operation, points_to_struct, points_to_field, field_at}
 use Rattle.kt_meaning.specs.Operations.{of_one, of_two, at_type, arithmetic, width, element_sum, field_place, apply_operation}
 use Rattle.kt_code.specs.declared.instr.Instr.TheVariants as instr
 use Rattle.kt_code.specs.Machine.{Here, gives, unary, binary, do_one}

@@ -1,10 +1,10 @@
 -- What is known of the parts of a typed expression.
-use Rattle.std.proofs.Common.{◌≡◌, ℕ, zero, suc, ◌==◌, ◌&&◌, Bool, true, false, List, [], ◌∷◌, map, length, slice_get, Option, Some, None, refl, ap, ◌∙◌, sym, arith}
-use Rattle.std.proofs.lemmas.Bool.{false≢true, and_parts}
+use Rattle.std.proofs.Common.{◌≡◌, ℕ, zero, suc, Bool, true, false, List, [], ◌∷◌, map, length, slice_get, Option, Some, None, refl, ap, ◌∙◌, sym}
+use Rattle.std.proofs.lemmas.Bool.{and_parts}
 use Rattle.std.proofs.lemmas.Option.{none-some, same_Some}
 use Rattle.kt_tree.specs.Kinds.{Scope, Head, is_scalar}
 use Rattle.kt_tree.specs.Tree.{Expressions, NoMore, More, Function}
-use Rattle.kt_tree.specs.Typed.{Kind, NoValue, Of, kind, types, value_type, if_so, both_there, same_types, set_kind, is_choice, choice_kind, logical_kind, call_kind, operation_kind, request_kind, is_modified, modified_kind}
+use Rattle.kt_tree.specs.Typed.{Kind, NoValue, Of, kind, types, value_type, if_so, both_there, set_kind, choice_kind, logical_kind, call_kind, operation_kind, request_kind, is_modified, modified_kind}
 use Rattle.kt_tree.specs.Version.{Program, head_of, scope_of}
 use Rattle.kt_genexpr.specs.ExpressionCode.{count}
 
