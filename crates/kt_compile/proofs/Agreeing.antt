@@ -1,5 +1,5 @@
 -- Steps of the tree and of code side by side: fewer replies, tests, ticks, and what a function returns.
-use Rattle.std.proofs.Common.{◌≡◌, ℕ, zero, suc, ◌+◌, ◌<◌, ◌≤◌, Bool, true, false, List, [], ◌∷◌, length, map, Option, None, Some, Result, Ok, Err, refl, ap, ◌∙◌, sym, subst, arith}
+use Rattle.std.proofs.Common.{◌≡◌, ℕ, suc, ◌<◌, ◌≤◌, Bool, true, false, List, [], ◌∷◌, None, Some, Result, Ok, Err, ap, ◌∙◌, arith}
 use Rattle.std.specs.Prelude.{slice_get}
 use Rattle.kt_mem.specs.declared.memory.Value.{Value}
 use Rattle.kt_mem.specs.declared.memory.Value.TheVariants.{Num, Null, Ptr, Free, Held, Undef}
@@ -13,7 +13,7 @@ use Rattle.kt_meaning.specs.TreeSteps.{Version, tested as tree_tested, ticks, fu
 use Rattle.kt_code.specs.Agreement.{Agree}
 use Rattle.kt_code.specs.AgreementLaws.{agree-both, agree-acts, agree-traps, agree-ends}
 use Rattle.kt_code.specs.Code.{Code}
-use Rattle.kt_code.specs.Looks.{tree_call, code_call, tree_look, code_look, tree_threads, code_threads}
+use Rattle.kt_code.specs.Looks.{tree_look, code_look, tree_threads, code_threads}
 use Rattle.kt_code.specs.Machine.{stands, tested as code_tested, main_returns, returns, leaves, step as code_step}
 use Rattle.kt_code.specs.declared.frame.Frame.{Frame}
 use Rattle.kt_code.specs.declared.private.Private.{Private}

@@ -1,36 +1,32 @@
 -- Calls: the code of a function's body does what a call of the function does, by the number of replies, since each call
 -- has a tick; so the entry of each function does the same acts.
-use Rattle.std.proofs.Common.{◌≡◌, ℕ, zero, suc, pos, ◌+◌, ◌-◌, ◌<◌, ◌≤◌, Bool, true, false, List, [], ◌∷◌, ◌++◌, length, map, replicate, Option, None, Some, Result, Ok, Err, refl, ap, ◌∙◌, sym, subst, arith, length-append}
+use Rattle.std.proofs.Common.{◌≡◌, ℕ, zero, suc, pos, ◌+◌, ◌-◌, ◌≤◌, Bool, true, false, List, [], ◌∷◌, ◌++◌, length, replicate, Option, None, Some, refl, ap, subst, arith}
 use Rattle.std.specs.Prelude.{slice_get}
 use Rattle.std.specs.List.{AllByRecursion}
 use Rattle.std.proofs.lemmas.Option.{none-some, same_Some}
-use Rattle.kt_types.specs.Table.{Table}
 use Rattle.kt_mem.specs.declared.memory.Value.{Value}
 use Rattle.kt_mem.specs.declared.memory.Value.TheVariants.{Num, Undef}
 use Rattle.kt_mem.specs.declared.steps.Trap.TheVariants as trap
 use Rattle.kt_tree.specs.Kinds.{int_type}
 use Rattle.kt_tree.specs.Tree.{Function}
-use Rattle.kt_tree.specs.Version.{Program, IsProgram, IsFunction, scope_of}
-use Rattle.kt_tree.specs.Typed.{fits}
-use Rattle.kt_meaning.specs.Steps.{Step, Quiet, Traps}
-use Rattle.kt_meaning.specs.Thread.{Work, Do, Have, Frame as TreeFrame, Restart, Context, Thread, at, entry}
-use Rattle.kt_meaning.specs.TreeSteps.{Version, function_at, is_main, end_value, returns_if, end_step, enter, step as tree_step}
-use Rattle.kt_code.specs.Agreement.{Called, Agree, DoesSameActs}
+use Rattle.kt_tree.specs.Version.{IsProgram, IsFunction}
+use Rattle.kt_meaning.specs.Thread.{Work, Do, Frame as TreeFrame, Restart, Context, at, entry}
+use Rattle.kt_meaning.specs.TreeSteps.{Version, function_at, is_main, end_value, returns_if, end_step, step as tree_step}
+use Rattle.kt_code.specs.Agreement.{Agree, DoesSameActs}
 use Rattle.kt_code.specs.AgreementLaws.{agree-right, agree-traps, same-acts}
 use Rattle.kt_code.specs.Code.{Code}
-use Rattle.kt_code.specs.Looks.{tree_call, code_call, tree_threads, code_threads}
-use Rattle.kt_code.specs.Machine.{frame_here, stands, entry_frame, enters, step as code_step}
+use Rattle.kt_code.specs.Looks.{tree_threads, code_threads}
+use Rattle.kt_code.specs.Machine.{frame_here, stands}
 use Rattle.kt_code.specs.declared.frame.Frame.{Frame}
-use Rattle.kt_code.specs.declared.instr.Instr.{Instr}
 use Rattle.kt_code.specs.declared.instr.Instr.TheVariants as instr
-use Rattle.kt_genexpr.specs.Generates.{HasAt, LookAlike, beside, later, AgreeAt, After, DoesCall, HasCall, DoesCallsUnder, ExpressionsDo}
-use Rattle.kt_genexpr.proofs.Agreeing.{look-alike, there, moved}
+use Rattle.kt_genexpr.specs.Generates.{HasAt, LookAlike, beside, later, AgreeAt, DoesCall, DoesCallsUnder, ExpressionsDo}
+use Rattle.kt_genexpr.proofs.Agreeing.{look-alike, there}
 use Rattle.kt_genexpr.proofs.Places.{has-front, has-back}
 use Rattle.kt_compile.specs.StatementCode.{statement_code}
-use Rattle.kt_compile.specs.StatementActs.{AfterWork, AfterReturn, GoesOn}
+use Rattle.kt_compile.specs.StatementActs.{AfterWork, AfterReturn}
 use Rattle.kt_compile.specs.VersionCode.{end_code, function_code}
 use Rattle.kt_compile.specs.VersionActs.{entry_state}
-use Rattle.kt_compile.proofs.Agreeing.{fewer-calls, fewer-return, value-returned, void-returned}
+use Rattle.kt_compile.proofs.Agreeing.{fewer-return, value-returned, void-returned}
 use Rattle.kt_compile.proofs.Mains.{main-result}
 use Rattle.kt_compile.proofs.Statements.{statements-do}
 
@@ -112,8 +108,12 @@ module _ (s : Version) (c : Code) (program : IsProgram s.program) (expressions :
   }
 
   -- from the entry of a function, with any arguments, the same acts
+  pub entry-agrees : (g : ℕ) (f : Function) (is : function_at s g ≡ Some f) (arguments : List Value) (r : Restart) (n : ℕ) →
+      Agree (tree_threads s) (code_threads c) n (entry g f arguments r) (entry_state s.number (entries g f is).entry_at g f arguments r)
+  entry-agrees g f is arguments r n =
+      body-agrees f g is (entries g f is).entry_at (entries g f is).stands_there n (calls-under n n (omega arith)) arguments [] r [] [] refl tt
+
   pub entry-acts : (g : ℕ) (f : Function) (is : function_at s g ≡ Some f) (arguments : List Value) (r : Restart) →
       DoesSameActs (tree_threads s) (code_threads c) (entry g f arguments r) (entry_state s.number (entries g f is).entry_at g f arguments r)
   entry-acts g f is arguments r =
-      same-acts (tree_threads s) (code_threads c) (entry g f arguments r) (entry_state s.number (entries g f is).entry_at g f arguments r)
-      (λ n. body-agrees f g is (entries g f is).entry_at (entries g f is).stands_there n (calls-under n n (omega arith)) arguments [] r [] [] refl tt)
+      same-acts (tree_threads s) (code_threads c) (entry g f arguments r) (entry_state s.number (entries g f is).entry_at g f arguments r) (entry-agrees g f is arguments r)

@@ -1,17 +1,16 @@
 -- In a version's code each function has an entry, where its instructions stand.
-use Rattle.std.proofs.Common.{◌≡◌, ℕ, zero, suc, ◌+◌, List, [], ◌∷◌, ◌++◌, length, Some, refl, subst}
+use Rattle.std.proofs.Common.{◌≡◌, ℕ, zero, suc, ◌+◌, List, [], ◌∷◌, length, Some, refl, subst}
 use Rattle.std.specs.Prelude.{slice_get}
 use Rattle.std.proofs.lemmas.Option.{none-some, same_Some}
 use Rattle.kt_types.specs.Table.{Table}
 use Rattle.kt_tree.specs.Tree.{Function}
-use Rattle.kt_tree.specs.Version.{Program}
 use Rattle.kt_meaning.specs.TreeSteps.{Version}
 use Rattle.kt_code.specs.declared.instr.Instr.{Instr}
 use Rattle.kt_genexpr.specs.Generates.{HasAt}
 use Rattle.kt_genexpr.proofs.Places.{has-front, has-back}
 use Rattle.kt_compile.specs.VersionCode.{function_code, functions_code, entries_from, version_code}
 use Rattle.kt_compile.proofs.Places.{has-itself}
-use Rattle.kt_compile.proofs.Calls.{HasEntry, HasEntries}
+use Rattle.kt_compile.proofs.Calls.{HasEntries}
 
 -- one of these entries is where the function's instructions stand
 record IsEntry (types : Table) (functions : List Function) (instrs : List Instr) (entries : List ℕ) (g : ℕ) (f : Function) : Type 0 where

@@ -1,5 +1,5 @@
 -- Each jump of a version's code stays within it, and each jump back goes to a tick.
-use Rattle.std.proofs.Common.{◌≡◌, ℕ, zero, suc, ◌+◌, ◌-◌, ◌<◌, ◌≤◌, ◌==◌, Bool, true, false, List, [], ◌∷◌, ◌++◌, length, Option, None, Some, refl, ap, ◌∙◌, sym, subst, arith, length-append}
+use Rattle.std.proofs.Common.{◌≡◌, ℕ, zero, suc, ◌+◌, ◌-◌, ◌≤◌, ◌==◌, Bool, true, false, List, [], ◌∷◌, ◌++◌, length, Option, None, Some, ap, ◌∙◌, subst, arith, length-append}
 use Rattle.std.specs.Prelude.{slice_get}
 use Rattle.std.proofs.lemmas.Option.{none-some, same_Some}
 use Rattle.kt_types.specs.declared.kinds.Ty.{Ty}
@@ -15,10 +15,10 @@ use Rattle.kt_meaning.specs.TreeSteps.{is_main}
 use Rattle.kt_code.specs.Settling.{IsJump, HasJumps}
 use Rattle.kt_code.specs.declared.instr.Instr.{Instr}
 use Rattle.kt_code.specs.declared.instr.Instr.TheVariants as instr
-use Rattle.kt_genexpr.specs.ExpressionCode.{or_char, type_at, locals_of, count, constant_code, operation_code, request_code, kept_code, conversion_code, storing_code, modified_code, expression_code, expressions_code}
+use Rattle.kt_genexpr.specs.ExpressionCode.{type_at, locals_of, count, constant_code, operation_code, request_code, kept_code, conversion_code, storing_code, modified_code, expression_code, expressions_code}
 use Rattle.kt_genexpr.specs.Generates.{HasAt}
 use Rattle.kt_genexpr.proofs.Places.{has-front, has-back}
-use Rattle.kt_compile.specs.StatementCode.{dropped_code, step_code, choice_code, turn_code, loop_code, behind_body, return_code, statement_code, statements_code}
+use Rattle.kt_compile.specs.StatementCode.{dropped_code, step_code, turn_code, statement_code, statements_code}
 use Rattle.kt_compile.specs.VersionCode.{end_code, function_code, functions_code}
 use Rattle.kt_compile.proofs.Places.{around, turn, turn-length, choice-length, one-more-length}
 

@@ -1,4 +1,5 @@
 pub mod Agreeing
+pub mod Bottoms
 pub mod Calls
 pub mod Entries
 pub mod Jumps
@@ -7,4 +8,5 @@ pub mod Places
 pub mod StatementTypes
 pub mod Statements
 pub mod Version
+pub mod VersionFits
 pub mod VersionJumps

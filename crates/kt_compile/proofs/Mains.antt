@@ -1,5 +1,5 @@
 -- The function named `main` gives an `int`.
-use Rattle.std.proofs.Common.{◌≡◌, ℕ, zero, suc, ◌+◌, ◌<◌, ◌⊎◌, inl, inr, ◌∙◌, sym, ap, subst, true, List, [], ◌∷◌, ◌++◌, length, Some, arith, codes}
+use Rattle.std.proofs.Common.{◌≡◌, ℕ, suc, ◌+◌, ◌<◌, ◌⊎◌, inl, inr, ◌∙◌, sym, ap, subst, true, List, [], ◌∷◌, ◌++◌, length, Some, arith, codes}
 use Rattle.std.specs.Prelude.{slice_get}
 use Rattle.std.proofs.lemmas.Bool.{cases_order}
 use Rattle.std.specs.Cmp.Lexicographic.{bytes_decides}

@@ -1,10 +1,10 @@
 -- The parts of a statement that fits are typed, and fit.
-use Rattle.std.proofs.Common.{◌≡◌, ℕ, ◌&&◌, true, false, Bool, Option, Some, None, refl, sym, subst}
+use Rattle.std.proofs.Common.{◌≡◌, ℕ, true, Option, Some, None, refl}
 use Rattle.std.specs.Option.{is_some}
-use Rattle.std.proofs.lemmas.Bool.{false≢true, and_parts}
+use Rattle.std.proofs.lemmas.Bool.{false≢true}
 use Rattle.kt_tree.specs.Kinds.{Scope}
-use Rattle.kt_tree.specs.Tree.{Expression, Statement}
-use Rattle.kt_tree.specs.Typed.{Kind, NoValue, Of, kind, value_type, is_scalar_kind, is_condition, all_of, is_result, fits_return, fits}
+use Rattle.kt_tree.specs.Tree.{Expression}
+use Rattle.kt_tree.specs.Typed.{Kind, NoValue, Of, kind, value_type, is_scalar_kind, is_condition, all_of, is_result, fits_return}
 
 -- the expression is typed
 pub record IsTyped (s : Scope) (e : Expression) : Type 0 where

@@ -1,22 +1,21 @@
 -- The code of a statement does what the statement does, by induction on the statement; a loop by the number of replies,
 -- since each turn has a tick.
-use Rattle.std.proofs.Common.{◌≡◌, ℕ, zero, suc, ◌+◌, ◌-◌, ◌<◌, ◌≤◌, ◌&&◌, Bool, true, false, List, [], ◌∷◌, ◌++◌, length, Option, None, Some, refl, ap, ◌∙◌, sym, subst, arith, length-append}
-use Rattle.std.specs.Prelude.{slice_get, slice_set}
+use Rattle.std.proofs.Common.{◌≡◌, ℕ, zero, suc, ◌+◌, ◌-◌, ◌<◌, ◌≤◌, ◌&&◌, Bool, true, List, [], ◌∷◌, ◌++◌, length, Option, None, Some, refl, ap, sym, subst, arith, length-append}
+use Rattle.std.specs.Prelude.{slice_set}
 use Rattle.std.specs.Option.{is_some}
 use Rattle.std.proofs.lemmas.Bool.{and_parts}
-use Rattle.kt_types.specs.Table.{Table}
 use Rattle.kt_mem.specs.declared.memory.Value.{Value}
 use Rattle.kt_mem.specs.declared.memory.Value.TheVariants.{Undef}
 use Rattle.kt_mem.specs.Comparisons.{zero_test}
 use Rattle.kt_tree.specs.Tree.{Expression, Statement, Evaluated, Undefined, Compound, Conditional, Looped, Repeated, Returned, Broken, Continued, Statements, Done, Then, Function}
-use Rattle.kt_tree.specs.Typed.{Kind, kind, is_condition, all_of, fits, all_fit}
+use Rattle.kt_tree.specs.Typed.{kind, is_condition, all_of, fits, all_fit}
 use Rattle.kt_tree.specs.Version.{scope_of}
-use Rattle.kt_meaning.specs.Thread.{Work, Eval, Have, Wait, Do, Run, Next, Again, Drops, Branches, Loops, Repeats, Returns, Restart, Context, at, to_loop, after_loop}
-use Rattle.kt_meaning.specs.TreeSteps.{Version, goes as tree_goes, ticks, step as tree_step}
+use Rattle.kt_meaning.specs.Thread.{Work, Eval, Have, Wait, Do, Run, Next, Again, Drops, Branches, Loops, Repeats, Returns, Restart, Context, to_loop, after_loop}
+use Rattle.kt_meaning.specs.TreeSteps.{Version, goes as tree_goes, ticks}
 use Rattle.kt_code.specs.AgreementLaws.{agree-left, agree-right, agree-both}
 use Rattle.kt_code.specs.Code.{Code}
 use Rattle.kt_code.specs.Looks.{tree_threads, code_threads}
-use Rattle.kt_code.specs.Machine.{stands, goes, passes, goes_back, step as code_step}
+use Rattle.kt_code.specs.Machine.{goes, passes, goes_back}
 use Rattle.kt_code.specs.declared.frame.Frame.{Frame}
 use Rattle.kt_code.specs.declared.instr.Instr.{Instr}
 use Rattle.kt_code.specs.declared.instr.Instr.TheVariants as instr
@@ -24,8 +23,8 @@ use Rattle.kt_genexpr.specs.ExpressionCode.{expression_code}
 use Rattle.kt_genexpr.specs.Generates.{HasAt, LookAlike, beside, later, AgreeAt, DoesCallsUnder, ExpressionsDo}
 use Rattle.kt_genexpr.proofs.Agreeing.{look-alike, there, moved}
 use Rattle.kt_genexpr.proofs.Places.{has-front, has-back}
-use Rattle.kt_compile.specs.StatementCode.{dropped_code, step_code, choice_code, turn_code, loop_code, behind_body, return_code, statement_code, statements_code}
-use Rattle.kt_compile.specs.StatementActs.{AfterWork, AfterReturn, GoesOn, DoesStatement, StatementsDo, end_of}
+use Rattle.kt_compile.specs.StatementCode.{dropped_code, step_code, choice_code, turn_code, return_code, statement_code, statements_code}
+use Rattle.kt_compile.specs.StatementActs.{AfterWork, GoesOn, DoesStatement, StatementsDo, end_of}
 use Rattle.kt_compile.proofs.Agreeing.{fewer-work, fewer-return, fewer-calls, test-agrees, ticks-agree, value-returned, void-returned}
 use Rattle.kt_compile.proofs.Places.{around, turn, turn-length, choice-length, one-more-length, IsTurn}
 use Rattle.kt_compile.proofs.StatementTypes.{IsTyped, IsTypedStep, some-typed, condition-typed, step-typed, void-return, value-return}

@@ -1,5 +1,5 @@
 -- A version's code has only jumps that stay within it and go back to ticks.
-use Rattle.std.proofs.Common.{◌≤◌, ◌+◌, length, arith}
+use Rattle.std.proofs.Common.{arith}
 use Rattle.kt_tree.specs.Version.{Program}
 use Rattle.kt_code.specs.Settling.{HasJumps}
 use Rattle.kt_compile.specs.VersionCode.{functions_code, version_code}

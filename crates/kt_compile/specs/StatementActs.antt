@@ -1,6 +1,6 @@
 -- What it is for code to do the acts of a statement: whatever agrees behind it, where `continue` and `break` go, and once
 -- the function has returned, agrees before it.
-use Rattle.std.specs.Prelude.{◌≡◌, ℕ, ◌+◌, ◌≤◌, Bool, true, List, [], ◌∷◌, length, Some}
+use Rattle.std.specs.Prelude.{◌≡◌, ℕ, ◌+◌, ◌≤◌, Bool, true, List, ◌∷◌, length, Some}
 use Rattle.kt_mem.specs.declared.memory.Value.{Value}
 use Rattle.kt_tree.specs.Tree.{Statement, Function}
 use Rattle.kt_tree.specs.Typed.{fits}
@@ -12,7 +12,6 @@ use Rattle.kt_code.specs.Code.{Code}
 use Rattle.kt_code.specs.Looks.{tree_threads, code_threads}
 use Rattle.kt_code.specs.declared.frame.Frame.{Frame}
 use Rattle.kt_code.specs.declared.private.Private.{Private}
-use Rattle.kt_code.specs.declared.instr.Instr.{Instr}
 use Rattle.kt_genexpr.specs.Generates.{HasAt, LookAlike, later, AgreeAt, DoesCallsUnder}
 use Rattle.kt_compile.specs.StatementCode.{statement_code}
 
