@@ -19,16 +19,15 @@ use Rattle.kt_code.specs.Looks.{tree_threads, code_threads}
 use Rattle.kt_code.specs.Machine.{frame_here, stands}
 use Rattle.kt_code.specs.declared.frame.Frame.{Frame}
 use Rattle.kt_code.specs.declared.instr.Instr.TheVariants as instr
-use Rattle.kt_genexpr.specs.Generates.{HasAt, LookAlike, beside, later, AgreeAt, DoesCall, DoesCallsUnder, ExpressionsDo}
+use Rattle.kt_genexpr.specs.Generates.{HasAt, LookAlike, beside, later, AgreeAt, DoesCall, DoesCallsUnder}
 use Rattle.kt_genexpr.proofs.Agreeing.{look-alike, there}
 use Rattle.kt_genexpr.proofs.Places.{has-front, has-back}
 use Rattle.kt_compile.specs.StatementCode.{statement_code}
-use Rattle.kt_compile.specs.StatementActs.{AfterWork, AfterReturn}
+use Rattle.kt_compile.specs.StatementActs.{AfterWork, AfterReturn, StatementsDo}
 use Rattle.kt_compile.specs.VersionCode.{end_code, function_code}
 use Rattle.kt_compile.specs.VersionActs.{entry_state}
 use Rattle.kt_compile.proofs.Agreeing.{fewer-return, value-returned, void-returned}
 use Rattle.kt_compile.proofs.Mains.{main-result}
-use Rattle.kt_compile.proofs.Statements.{statements-do}
 
 -- each function of the version stands in code, from an entry on
 pub record HasEntry (s : Version) (c : Code) (g : ℕ) (f : Function) : Type 0 where
@@ -51,7 +50,7 @@ all-functions P [] n f a e = absurd (none-some f e)
 all-functions P (g ∷ fs) zero f a e = subst P (same_Some g f e) (a.0)
 all-functions P (g ∷ fs) (suc n) f a e = all-functions P fs n f (a.1) e
 
-module _ (s : Version) (c : Code) (program : IsProgram s.program) (expressions : ExpressionsDo s c) (entries : HasEntries s c) where
+module _ (s : Version) (c : Code) (program : IsProgram s.program) (statements : StatementsDo s c) (entries : HasEntries s c) where
   -- the end of a function's body, by whether it is `main` and by its result
   end-agrees : (f : Function) (b : Bool) (r : Option ℕ) → is_main f ≡ b → f.result ≡ r → (n : ℕ) (x : Context) (below : List Frame) (p : ℕ) (ops : List Value) → HasAt c.instrs p (end_code b r) →
       function_at s x.function ≡ Some f → LookAlike x.below below → AfterReturn s c n x.below below ops → tree_step s (at x []) ≡ returns_if s x (end_value b r) →
@@ -79,7 +78,7 @@ module _ (s : Version) (c : Code) (program : IsProgram s.program) (expressions :
       let ends : AfterWork s c n x [] codes q ops =
       λ m le locals r'. end-agrees f (is_main f) f.result refl refl m (later x locals r') codes q ops (has-back c.instrs p body end h) is alike
       (fewer-return s c m n trees codes ops le after) (ap (λ o. end_step s (later x locals r') o) is) in
-      statements-do s c expressions f false f.body fit 0 0 p (has-front c.instrs p body end h) n calls x [] codes ops (record {
+      statements f false f.body fit 0 0 p (has-front c.instrs p body end h) n calls x [] codes ops (record {
         function = is;
         alike = alike;
         returned = after;

@@ -21,7 +21,7 @@ use Rattle.kt_code.specs.declared.private.Private.{Private}
 use Rattle.kt_code.proofs.CodeSettling.{settle-settles}
 use Rattle.kt_compile.specs.VersionActs.{entry_state, IsLastResult, FitsEntries}
 use Rattle.kt_compile.specs.VersionCode.{version_code}
-use Rattle.kt_genexpr.specs.Generates.{ExpressionsDo}
+use Rattle.kt_compile.specs.StatementActs.{StatementsDo}
 use Rattle.kt_compile.proofs.Calls.{entry-agrees}
 use Rattle.kt_compile.proofs.Entries.{has-entries}
 use Rattle.kt_compile.proofs.VersionJumps.{version-jumps}
@@ -69,12 +69,12 @@ module _ (s : Version) (c : Code) (program : IsProgram s.program) (jumps : HasJu
       (head-fits n (tree_step s h.left) (code_step c h.right) h.head h.onward (step-Keeps s program h.left there.thread)
       (step-stays s program b k bottom_is last h.left there.thread there.stands) (fits-for n))
 
-pub version-fits : (s : Version) → IsProgram s.program → ExpressionsDo s (version_code s.program) → FitsEntries s (version_code s.program)
-version-fits s program expressions g at f arguments r is entry_is last are restart n =
+pub version-fits : (s : Version) → IsProgram s.program → StatementsDo s (version_code s.program) → FitsEntries s (version_code s.program)
+version-fits s program statements g at f arguments r is entry_is last are restart n =
     let c = version_code s.program in
     let there = has-entries s g f is in
     let same : there.entry_at ≡ at = same_Some there.entry_at at (sym there.entry_is ∙ entry_is) in
-    let agrees = entry-agrees s c program expressions (has-entries s) g f is arguments r n in
+    let agrees = entry-agrees s c program statements (has-entries s) g f is arguments r n in
     fits-for s c program (version-jumps s.program) g f is last n (entry g f arguments r) (entry_state s.number at g f arguments r)
     (subst (λ i. Agree (tree_threads s) (code_threads c) n (entry g f arguments r) (entry_state s.number i g f arguments r)) same agrees)
     (record { thread = entry-IsThread s.program program g f arguments r is are restart; stands = refl })

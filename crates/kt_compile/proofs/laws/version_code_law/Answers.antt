@@ -7,11 +7,11 @@ use Rattle.kt_compile.proofs.laws.version_code_law.Goals as goal
 
 pub returns-clause-acts : goal.returns-clause-acts
 returns-clause-acts c =
-    λ n. version-acts (numbered c.args.version.now n) c.version_law.ensures.program (c.expression_law.ensures n (version_code c.args.version.now))
+    λ n. version-acts (numbered c.args.version.now n) c.version_law.ensures.program (c.statement_law.ensures n (version_code c.args.version.now))
 
 pub returns-clause-jumps : goal.returns-clause-jumps
 returns-clause-jumps c = version-jumps c.args.version.now
 
 pub returns-clause-fits : goal.returns-clause-fits
 returns-clause-fits c =
-    λ n. version-fits (numbered c.args.version.now n) c.version_law.ensures.program (c.expression_law.ensures n (version_code c.args.version.now))
+    λ n. version-fits (numbered c.args.version.now n) c.version_law.ensures.program (c.statement_law.ensures n (version_code c.args.version.now))
