@@ -1,0 +1,15 @@
+pub mod Agreeing
+pub mod Bottoms
+pub mod Calls
+pub mod Codes
+pub mod Entries
+pub mod GoingOn
+pub mod Jumps
+pub mod Loops
+pub mod Mains
+pub mod Places
+pub mod StatementTypes
+pub mod Statements
+pub mod Version
+pub mod VersionFits
+pub mod VersionJumps

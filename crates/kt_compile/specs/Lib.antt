@@ -1,0 +1,4 @@
+pub mod StatementActs
+pub mod StatementCode
+pub mod VersionActs
+pub mod VersionCode
