@@ -62,7 +62,7 @@ module _ {X : Type 0} (n : List ℕ) (key : Vec ℕ) (v : X) where
 
 -- ---- types
 
-same-root : (a b : Root) → same_root a b ≡ true → a ≡ b
+pub same-root : (a b : Root) → same_root a b ≡ true → a ≡ b
 same-root root.Char root.Char e = refl
 same-root root.Int root.Int e = refl
 same-root root.Long root.Long e = refl

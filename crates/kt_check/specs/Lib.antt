@@ -16,6 +16,7 @@ pub mod Statements
 pub mod Tables
 pub mod Gathered
 pub mod Outers
+pub mod Placed
 pub mod Terms
 pub mod Types
 pub mod Uses

@@ -9,7 +9,7 @@ use crate::fault::CheckFault;
 use kt_types::Ty;
 
 /// What a type is without its stars. A struct has a number, one for each name.
-#[derive(Clone, Copy, Debug, PartialEq, Eq)]
+#[derive(Clone, Copy, Debug, PartialEq, Eq, Hash)]
 pub(crate) enum Root {
     Char,
     Int,

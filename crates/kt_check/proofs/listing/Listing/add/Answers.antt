@@ -1,7 +1,7 @@
 use Rattle.std.proofs.Common.{sym, ap, ◌∙◌}
 use Rattle.kt_check.specs.Types.{place_of_type}
 use Rattle.kt_check.proofs.Keys.{inserted-type, inserted-place}
-use Rattle.kt_check.proofs.types.Types.add.Goals as goal
+use Rattle.kt_check.proofs.listing.Listing.add.Goals as goal
 
 pub returns-clause-types : goal.returns-clause-types
 returns-clause-types c = c.in_ok-added.ensures.keys ∙ inserted-type c.args.self.now.types.keys c.args.ty

@@ -1,5 +1,5 @@
 use Rattle.kt_check.proofs.Keys.{next-star}
-use Rattle.kt_check.proofs.types.Types.add_starred.Goals as goal
+use Rattle.kt_check.proofs.listing.Listing.add_starred.Goals as goal
 
 pub loop-preserved : goal.loop-preserved
 loop-preserved c =
