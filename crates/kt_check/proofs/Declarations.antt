@@ -49,39 +49,3 @@ module _ (ds : List LocalDeclarator) (i : ℕ) (d : LocalDeclarator) (within : i
 
   pub plain-past : (stars_of d.pointer == 0) ≡ false → plain_in (drop i ds) ≡ plain_in ds → plain_in (drop (i + 1) ds) ≡ plain_in ds
   plain-past e before = sym (ap plain_in rest-is ∙ rw e refl) ∙ before
-
--- ---- locals of a name
-
-module _ (ls : List LocalInfo) (name : List ℕ) (i : ℕ) (d : LocalInfo) (within : i < length ls) (is : d ≡ get_or ls i d) where
-  others-are : drop i ls ≡ d ∷ drop (i + 1) ls
-  others-are = rw (drop-cons ls i d within, ← is, add-one) refl
-
-  pub local-here : bytes_eq d.name.now name ≡ true → contains (local_names (drop i ls)) name ≡ contains (local_names ls) name → true ≡ contains (local_names ls) name
-  local-here e before = sym (ap (λ (xs : List LocalInfo). contains (local_names xs) name) others-are ∙ rw e refl) ∙ before
-
-  pub local-past : bytes_eq d.name.now name ≡ false → contains (local_names (drop i ls)) name ≡ contains (local_names ls) name → contains (local_names (drop (i + 1) ls)) name ≡ contains (local_names ls) name
-  local-past e before = sym (ap (λ (xs : List LocalInfo). contains (local_names xs) name) others-are ∙ rw e refl) ∙ before
-
-le-holds : (a b : ℕ) → nat_le a b ≡ true → a ≤ b
-le-holds a b e = grind (arith, nat_tests)
-
-le-fails : (a b : ℕ) → nat_le a b ≡ false → b ≤ a
-le-fails a b e = grind (arith, nat_tests)
-
-take-names : (n : ℕ) (ls : List LocalInfo) → take n (local_names ls) ≡ local_names (take n ls)
-take-names zero ls = refl
-take-names (suc n) [] = refl
-take-names (suc n) (l ∷ ls) = ap (λ (ns : List (List ℕ)). l.name.now ∷ ns) (take-names n ls)
-
-take-most : (n end : ℕ) (ls : List LocalInfo) → (n ≤ length ls → end ≡ n) → (length ls ≤ n → end ≡ length ls) → take end ls ≡ take n ls
-take-most n end ls few many = by (nat_le n (length ls)) refl
-  where
-    by : (b : Bool) → nat_le n (length ls) ≡ b → take end ls ≡ take n ls
-    by true e = rw (few (le-holds n (length ls) e)) refl
-    by false e =
-        let more : length ls ≤ n = le-fails n (length ls) e in
-        rw (many more) (take_all (length ls) ls (omega arith) ∙ sym (take_all n ls more))
-
--- the names of the first locals
-pub among-is : (ls : List LocalInfo) (n end : ℕ) (name : List ℕ) → end ≡ min (length ls) n → contains (local_names (take end ls)) name ≡ contains (take n (local_names ls)) name
-among-is ls n end name e = rw (take-most n end ls (λ h. omega arith) (λ h. omega arith), take-names n ls) refl

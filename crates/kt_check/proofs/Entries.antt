@@ -22,26 +22,26 @@ use Rattle.kt_check.proofs.Parts.{fails, follows}
 pub kept-state : (old new : Scopes) → Kept old new → state_of new ≡ record (state_of old) { next = new.next }
 kept-state old new k = rw (k.0, k.1) refl
 
-pub grown-same : (old new : Scopes) → new.visible.items ≡ old.visible.items → new.start ≡ old.start → Grown old new
-grown-same old new v s = ([], v ∙ sym (append-nil old.visible.items), s)
+pub grown-same : (old new : Scopes) → new.visible ≡ old.visible → new.start ≡ old.start → Grown old new
+grown-same old new v s = ([], v ∙ sym (append-nil old.visible), s)
 
 pub grown-kept : (old new : Scopes) → Kept old new → Grown old new
 grown-kept old new k = grown-same old new k.0 k.1
 
 pub grown-more : (a b c : Scopes) → Grown a b → Grown b c → Grown a c
-grown-more a b c (m, v, s) (n, w, t) = (m ++ n, w ∙ ap (λ (xs : List Visible). xs ++ n) v ∙ append_assoc a.visible.items m n, t ∙ s)
+grown-more a b c (m, v, s) (n, w, t) = (m ++ n, w ∙ ap (λ (xs : List Visible). xs ++ n) v ∙ append_assoc a.visible m n, t ∙ s)
 
 -- behind a scope inside stands what stood before it
-pub left-kept : (old inner last new : Scopes) → inner.visible.items ≡ old.visible.items → inner.start ≡ length old.visible.items → Grown inner last
-    → new.visible.items ≡ take last.start last.visible.items → new.start ≡ old.start → Kept old new
+pub left-kept : (old inner last new : Scopes) → inner.visible ≡ old.visible → inner.start ≡ length old.visible → Grown inner last
+    → new.visible ≡ take last.start last.visible → new.start ≡ old.start → Kept old new
 left-kept old inner last new v s (m, w, t) e f = (
-  e ∙ ap (λ n. take n last.visible.items) (t ∙ s) ∙ ap (λ (xs : List Visible). take (length old.visible.items) xs) (w ∙ ap (λ (xs : List Visible). xs ++ m) v)
-      ∙ take-append_seam old.visible.items m,
+  e ∙ ap (λ n. take n last.visible) (t ∙ s) ∙ ap (λ (xs : List Visible). take (length old.visible) xs) (w ∙ ap (λ (xs : List Visible). xs ++ m) v)
+      ∙ take-append_seam old.visible m,
   f,
 )
 
 -- the end of a scope inside can be found
-pub left-within : (old inner last : Scopes) → inner.visible.items ≡ old.visible.items → inner.start ≡ length old.visible.items → Grown inner last → old.start ≤ length old.visible.items → old.start ≤ last.start
+pub left-within : (old inner last : Scopes) → inner.visible ≡ old.visible → inner.start ≡ length old.visible → Grown inner last → old.start ≤ length old.visible → old.start ≤ last.start
 left-within old inner last v s (m, w, t) h = subst (λ n. old.start ≤ n) (sym (t ∙ s)) h
 
 -- ---- one part behind another

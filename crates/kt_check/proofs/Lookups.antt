@@ -10,17 +10,15 @@ use Rattle.std.specs.Option.{option_map}
 use Rattle.std.proofs.lemmas.Bool.Decides.{nat_tests, Decides-eqb}
 use Rattle.std.proofs.lemmas.Cmp.{nat_list_eq_equiv}
 use Rattle.std.proofs.lemmas.Slice.Eq.{bytes_eq-Decides}
-use Rattle.std.proofs.lemmas.List.{take_more, take_all}
 use Rattle.std.proofs.lemmas.Iterator.Adapters.{position_from-zero}
 use Rattle.std.proofs.lemmas.Map.Keys.{IsDistinct-head, IsDistinct-tail}
 use Rattle.kt_types.specs.declared.kinds.Ty.{Ty}
 use Rattle.kt_types.specs.contracts.kinds.TyPartialEq.TheImpl.{eq-value}
 use Rattle.kt_check.specs.declared.info.StructInfo.{StructInfo}
 use Rattle.kt_check.specs.declared.info.FieldInfo.{FieldInfo}
-use Rattle.kt_check.specs.declared.info.Visible.{Visible}
 use Rattle.kt_check.specs.Types.{same_type, place_of_type, place_by}
-use Rattle.kt_check.specs.Environment.{FieldOf, Found, field_from, local_named, struct_numbered, Struct}
-use Rattle.kt_check.specs.Views.{latest_first, visible_of, struct_of}
+use Rattle.kt_check.specs.Environment.{FieldOf, Found, field_from, struct_numbered, Struct}
+use Rattle.kt_check.specs.Views.{latest_first, struct_of}
 
 -- ---- types
 
@@ -165,36 +163,3 @@ module _ (s : ℕ) where
   pub struct-found : (es : List (ℕ × StructInfo)) (i : ℕ) (e : ℕ × StructInfo) → Some i ≡ position (λ k. s == k) (keys_of es) → slice_get es i ≡ Some e → IsDistinct ◌==◌ (keys_of es)
       → Some (struct_of e) ≡ struct_numbered (map struct_of (latest_first es)) s
   struct-found es i e is at apart = sym (struct-at es i e at (passes es i e is at) apart)
-
--- ---- locals
-
-latest-push : {A : Type 0} (xs : List A) (x : A) → latest_first (xs ++ x ∷ []) ≡ x ∷ latest_first xs
-latest-push [] x = refl
-latest-push (y ∷ xs) x = rw (latest-push xs x) refl
-
--- the locals among the first n
-abbrev pub named_below : List Visible → ℕ → List ℕ → Option ℕ
-named_below visible n name = local_named (map visible_of (latest_first (take n visible))) name
-
-pub local-none : (visible : List Visible) (name : List ℕ) → named_below visible 0 name ≡ None
-local-none [] name = refl
-local-none (v ∷ visible) name = refl
-
-pub local-all : (visible : List Visible) (name : List ℕ) → named_below visible (length visible) name ≡ local_named (map visible_of (latest_first visible)) name
-local-all visible name = rw (take_all (length visible) visible (omega arith)) refl
-
-local-step : (visible : List Visible) (name : List ℕ) (n : ℕ) (d : Visible) → n < length visible
-    → named_below visible (n + 1) name ≡ (if bytes_eq (get_or visible n d).name.items name then Some (get_or visible n d).local else named_below visible n name)
-local-step visible name n d h = rw (take_more visible n d h, latest-push (take n visible) (get_or visible n d)) refl
-
-module _ (visible : List Visible) (name : List ℕ) (r : ℕ) (d : Visible) (up : 0 < r) (within : r ≤ length visible) where
-  last : named_below visible r name ≡ (if bytes_eq (get_or visible (r - 1) d).name.items name then Some (get_or visible (r - 1) d).local else named_below visible (r - 1) name)
-  last =
-      let e : r ≡ (r - 1) + 1 = omega arith in
-      ap (λ k. named_below visible k name) e ∙ local-step visible name (r - 1) d (omega arith)
-
-  pub local-here : d ≡ get_or visible (r - 1) d → bytes_eq d.name.items name ≡ true → Some d.local ≡ named_below visible r name
-  local-here is e = sym (last ∙ rw (← is, e) refl)
-
-  pub local-past : d ≡ get_or visible (r - 1) d → bytes_eq d.name.items name ≡ false → named_below visible (r - 1) name ≡ named_below visible r name
-  local-past is e = sym (last ∙ rw (← is, e) refl)

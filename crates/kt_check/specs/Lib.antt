@@ -26,3 +26,5 @@ pub mod Scopes
 pub mod Shapes
 pub mod Stages
 pub mod Assembly
+pub mod Latest
+pub mod Firsts

@@ -30,18 +30,18 @@ names_of vs = map (λ v. v.name.items) vs
 
 abbrev pub state_of : ScopesCode → State
 state_of s = record {
-  visible = map visible_of (latest_first s.visible.items);
-  own = names_of (latest_first (drop s.start s.visible.items));
+  visible = map visible_of (latest_first s.visible);
+  own = names_of (latest_first (drop s.start s.visible));
   next = s.next;
 }
 
 -- what is visible is what was visible; only the number of locals may have grown
 abbrev pub Kept : ScopesCode → ScopesCode → Type 0
-Kept old new = (new.visible.items ≡ old.visible.items) × (new.start ≡ old.start)
+Kept old new = (new.visible ≡ old.visible) × (new.start ≡ old.start)
 
 -- names were declared in the innermost scope
 abbrev pub Grown : ScopesCode → ScopesCode → Type 0
-Grown old new = (more : List VisibleCode) × (new.visible.items ≡ old.visible.items ++ more) × (new.start ≡ old.start)
+Grown old new = (more : List VisibleCode) × (new.visible ≡ old.visible ++ more) × (new.start ≡ old.start)
 
 -- a local as the syntax has it
 abbrev pub declared_as : LocalInfo → DeclaredLocal

@@ -15,6 +15,7 @@ use Rattle.kt_check.specs.declared.info.Visible.{Visible as VisibleCode}
 use Rattle.kt_check.specs.declared.info.Outer.{Outer as OuterCode}
 use Rattle.kt_check.specs.declared.info.Outer.TheVariants as outer
 use Rattle.kt_check.specs.declared.arithmetic.Combined.{Combined as CombinedCode}
+pub use Rattle.kt_check.specs.Latest.{latest_first}
 use Rattle.kt_check.specs.Types.{place_in}
 use Rattle.kt_check.specs.Environment.{Environment, FieldOf, Struct, Found, Declared, Outer, Global, Function, Visible}
 use Rattle.kt_check.specs.Operands.{Operand, Valued, Zero, Null, LocalPlace, CellPlace, ArrayPlace, WholePlace, NoResult, Value, value_of_type}
@@ -56,11 +57,6 @@ expressions_of (e ∷ es) = More e (expressions_of es)
 
 -- ---- environments
 
--- what came last, first
-abbrev pub latest_first : {A : Type 0} → List A → List A
-latest_first [] = []
-latest_first (x ∷ xs) = latest_first xs ++ x ∷ []
-
 abbrev pub fields_of : StructInfo → List FieldOf
 fields_of s = map (λ e. record { name = e.0.items; ty = e.1.ty; array = e.1.array }) s.fields.entries
 
@@ -96,7 +92,7 @@ environment_of e = record {
   points = map (λ n. n.items) e.points.now.keys;
   locals = e.locals.now;
   noted = e.noted;
-  visible = map visible_of (latest_first e.visible.now);
+  visible = elim e.visible as (λ _. List Visible) [ None ↦ [] | (Some vs) ↦ map visible_of (latest_first vs.now) ];
 }
 
 -- ---- tests

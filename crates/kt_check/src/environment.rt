@@ -3,10 +3,11 @@
 ghost use Rattle.std.specs.Prelude.{◌≡◌, Option};
 ghost use Rattle.std.specs.Option.{option_map, option_copied};
 ghost use Rattle.kt_check.specs.Environment.{struct_in, is_complete, cells_of, field_from, local_named, struct_numbered};
-ghost use Rattle.kt_check.specs.Views.{environment_of, fields_of, struct_of, found_as, outer_of, visible_of};
+ghost use Rattle.kt_check.specs.Views.{environment_of, fields_of, struct_of, found_as, outer_of};
 
 use crate::ctype::{CType, Root};
-use crate::info::{FoundField, Outer, StructInfo, Visible};
+use crate::in_scope::InScope;
+use crate::info::{FoundField, Outer, StructInfo};
 use crate::types::Types;
 use indexmap::{IndexMap, IndexSet};
 use std::alloc::Global;
@@ -28,8 +29,8 @@ pub(crate) struct Environment<'f> {
     /// The type of each local of the function, and whether the function has `E_NOTELOCALS`.
     pub locals: &'f [CType],
     pub noted: bool,
-    /// The locals in scope, the innermost last.
-    pub visible: &'f [Visible],
+    /// The locals in scope; none outside functions.
+    pub visible: Option<&'f InScope>,
 }
 
 impl StructInfo {
@@ -106,15 +107,10 @@ impl Environment<'_> {
     pub(crate) fn local_named(&self, name: &[u8]) -> Option<u32>
         ensures { result ≡ local_named (environment_of self.now).visible name.now }
     {
-        let mut rest = self.visible.len();
-        while rest > 0 {
-            rest -= 1;
-            let visible = &self.visible[rest];
-            if visible.is_named(name) {
-                return Some(visible.local);
-            }
+        match self.visible {
+            Some(names) => names.local_named(name),
+            None => None,
         }
-        None
     }
 
     /// What a name of the whole file stands for.

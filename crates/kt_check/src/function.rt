@@ -20,7 +20,7 @@ use crate::declarator::{base_for, ctype, held, stars_of};
 use crate::environment::Environment;
 use crate::extent::{pointer_outside, view_of};
 use crate::fault::CheckFault;
-use crate::function_locals::{locals_of, types_of};
+use crate::function_locals::{first_places, locals_of, types_of};
 use crate::info::{FunctionInfo, LocalInfo, Scopes};
 use crate::judged::both;
 use crate::local::new_name;
@@ -68,10 +68,12 @@ fn function_info<'f>(
 {
     let locals = locals_of(outside, f)?;
     let types = types_of(outside.alloc, locals.as_slice())?;
+    let first = first_places(outside.alloc, locals.as_slice())?;
     let result = result_of(outside, f)?;
     Ok(FunctionInfo {
         locals,
         types,
+        first,
         result,
         noted: is_noted(f),
     })

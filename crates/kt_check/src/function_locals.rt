@@ -7,12 +7,15 @@ ghost use Rattle.kt_check.specs.Uses.{where_there};
 ghost use Rattle.kt_check.specs.Tables.{declared_type, locals_in, start_locals, statement_locals, block_locals, parameter_local, locals_of};
 ghost use Rattle.kt_check.specs.Views.{environment_of};
 ghost use Rattle.kt_check.specs.Scopes.{declared_as};
+ghost use Rattle.kt_check.specs.Firsts.{AreFirst};
 
 use crate::ctype::CType;
 use crate::declarator::{ctype, stars_of};
 use crate::environment::Environment;
 use crate::fault::CheckFault;
 use crate::info::LocalInfo;
+use crate::put::put;
+use indexmap::IndexMap;
 use kt_grammar::{Base, Name};
 use kt_syntax::{ForStart, Function, Locals, Parameter, Pointer, Stmt};
 use sqlite_items::Items;
@@ -178,4 +181,19 @@ pub(crate) fn types_of(alloc: Global, locals: &[LocalInfo<'_>]) -> Result<Vec<CT
         types.push(local.ty)?;
     }
     Ok(types)
+}
+
+/// The place of the first local of each name.
+pub(crate) fn first_places(
+    alloc: Global,
+    locals: &[LocalInfo<'_>],
+) -> Result<IndexMap<Vec<u8>, usize>, CheckFault>
+    ensures places { IfOk result (λ m. AreFirst m.entries locals.now) }
+    ensures memory { IfErr result (λ f. f ≡ NoMemory) }
+{
+    let mut first = IndexMap::new(alloc);
+    for (place, local) in locals.iter().enumerate() {
+        put(&mut first, alloc, local.name, place)?;
+    }
+    Ok(first)
 }

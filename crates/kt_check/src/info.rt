@@ -1,8 +1,11 @@
 //! What a file declares: its structs, its globals and functions, and the names that are in scope.
 
 ghost use Rattle.std.specs.Prelude.{◌<◌, ◌≤◌, ◌^◌, length};
+ghost use Rattle.std.proofs.Props.{props};
+ghost use Rattle.kt_check.specs.Firsts.{AreFirst};
 
 use crate::ctype::CType;
+use crate::in_scope::InScope;
 use indexmap::IndexMap;
 use kt_grammar::Base;
 use kt_syntax::Pointer;
@@ -46,11 +49,12 @@ pub(crate) enum Outer {
     Function(Signature),
 }
 
-/// A name that is in scope, and the number of its local.
+/// A name that is in scope, the number of its local, and the place of the one of the same name that it hides.
 #[derive(Debug, Drop)]
 pub(crate) struct Visible {
     pub name: Vec<u8>,
     pub local: u32,
+    pub hides: Option<usize>,
 }
 
 /// A local of a function, as it is declared.
@@ -62,21 +66,23 @@ pub(crate) struct LocalInfo<'f> {
     pub pointer: &'f Option<Pointer>,
 }
 
-/// What the body of a function needs of the function: its locals and their types, in the order of their declarations, its
-/// result, and whether it has `E_NOTELOCALS`.
+/// What the body of a function needs of the function: its locals and their types, in the order of their declarations, the
+/// place of the first local of each name, its result, and whether it has `E_NOTELOCALS`.
 #[derive(Drop)]
 pub(crate) struct FunctionInfo<'f> {
     pub locals: Vec<LocalInfo<'f>>,
     pub types: Vec<CType>,
+    pub first: IndexMap<Vec<u8>, usize>,
     pub result: Option<CType>,
     pub noted: bool,
+    ghost places: { AreFirst first.entries locals.items } by { Prim.hlevel props },
 }
 
 /// The names in scope, the innermost last; where those of the innermost scope begin; and how many locals were declared.
 #[derive(Drop)]
 pub(crate) struct Scopes {
-    pub visible: Vec<Visible>,
+    pub visible: InScope,
     pub start: usize,
     pub next: u32,
-    ghost within: { start ≤ length visible.items },
+    ghost within: { start ≤ length visible },
 }

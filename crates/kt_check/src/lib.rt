@@ -31,6 +31,7 @@ mod function;
 mod function_locals;
 mod global;
 mod head;
+mod in_scope;
 mod info;
 mod initial;
 mod judged;

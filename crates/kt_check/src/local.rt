@@ -1,6 +1,6 @@
 //! Declarations of locals (ISO/IEC 9899:2011, 6.7).
 
-ghost use Rattle.std.specs.Prelude.{◌≡◌, List, [], ◌++◌, map, take, OnOk, Ok};
+ghost use Rattle.std.specs.Prelude.{◌≡◌, List, [], ◌++◌, map, OnOk, Ok};
 ghost use Rattle.std.specs.Option.{option_map};
 ghost use Rattle.kt_grammar.specs.Tree.{term_of};
 ghost use Rattle.kt_syntax.specs.Tree.{local_of, declaration_of};
@@ -11,9 +11,9 @@ ghost use Rattle.kt_check.specs.Types.{ctype};
 ghost use Rattle.kt_check.specs.Uses.{stars_of};
 ghost use Rattle.kt_check.specs.Operands.{convert};
 ghost use Rattle.kt_check.specs.Terms.{typing, first_token};
-ghost use Rattle.kt_check.specs.Statements.{here, contains, declared, declarator_place, held, pointer_outside, new_name, initial, local, locals_from, locals, base_for};
+ghost use Rattle.kt_check.specs.Statements.{here, declared, declarator_place, held, pointer_outside, new_name, initial, local, locals_from, locals, base_for};
 ghost use Rattle.kt_check.specs.Views.{environment_of, operand_of};
-ghost use Rattle.kt_check.specs.Scopes.{state_of, body_of, local_names, part_of, Grown};
+ghost use Rattle.kt_check.specs.Scopes.{state_of, body_of, part_of, Grown};
 
 use crate::body::Body;
 use crate::builtin::builtin_named;
@@ -23,7 +23,7 @@ use crate::declarator::{
 };
 use crate::environment::Environment;
 use crate::fault::CheckFault;
-use crate::info::{LocalInfo, Scopes};
+use crate::info::Scopes;
 use crate::judged::both;
 use crate::node;
 use crate::operand::Operand;
@@ -33,26 +33,6 @@ use kt_syntax::{LocalDeclarator, Locals};
 use kt_tree::{Expr, Stmt};
 use sqlite_items::Items;
 use std::alloc::Global;
-
-/// Whether one of these locals has the name.
-fn has_local(locals: &[LocalInfo<'_>], name: &[u8]) -> bool
-    ensures { result ≡ contains (local_names locals.now) name.now }
-{
-    for local in locals {
-        if local.name == name {
-            return true;
-        }
-    }
-    false
-}
-
-/// Whether one of the first locals has the name.
-fn is_among(locals: &[LocalInfo<'_>], next: u32, name: &[u8]) -> bool
-    ensures { result ≡ contains (take next (local_names locals.now)) name.now }
-{
-    let end = locals.len().min(next as usize);
-    has_local(&locals[..end], name)
-}
 
 /// A local's name is no built-in call's, is once in its scope, and with `E_NOTELOCALS` once in the function.
 pub(crate) fn new_name(
@@ -66,7 +46,7 @@ pub(crate) fn new_name(
     if builtin_named(word).is_some() || scopes.has_own(word) {
         return Err(CheckFault::Twice { at: name.at });
     }
-    if body.noted && is_among(body.locals, scopes.next, word) {
+    if body.noted && body.has_among(scopes.next, word) {
         return Err(CheckFault::Note { at: name.at });
     }
     Ok(())

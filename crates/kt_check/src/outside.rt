@@ -41,7 +41,7 @@ impl Frame<'_> {
             points: self.points,
             locals: &[],
             noted: false,
-            visible: &[],
+            visible: None,
         }
     }
 

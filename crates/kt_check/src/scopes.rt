@@ -1,40 +1,15 @@
 //! The names that are in scope (ISO/IEC 9899:2011, 6.2.1).
 
-ghost use Rattle.std.specs.Prelude.{◌≡◌, ◌≤◌, length, map, take, OnOk, IfErr};
-ghost use Rattle.std.specs.Str.{bytes_eq};
+ghost use Rattle.std.specs.Prelude.{◌≡◌, ◌≤◌, length, take, OnOk, IfErr};
 ghost use Rattle.kt_check.specs.declared.fault.CheckFault.TheVariants.{NoMemory};
 ghost use Rattle.kt_check.specs.Statements.{contains, declared, entered};
 ghost use Rattle.kt_check.specs.Functions.{no_state};
-ghost use Rattle.kt_check.specs.Views.{latest_first, visible_of};
-ghost use Rattle.kt_check.specs.Scopes.{names_of, state_of, Grown};
+ghost use Rattle.kt_check.specs.Scopes.{state_of, Grown};
 
 use crate::fault::CheckFault;
-use crate::info::{Scopes, Visible};
+use crate::in_scope::InScope;
+use crate::info::Scopes;
 use std::alloc::Global;
-
-impl Visible {
-    /// Whether it has the name.
-    pub(crate) fn is_named(&self, name: &[u8]) -> bool
-        ensures { result ≡ bytes_eq self.now.name.items name.now }
-    {
-        self.name.as_slice() == name
-    }
-}
-
-/// Whether one of these has the name.
-fn has_name(visible: &[Visible], name: &[u8]) -> bool
-    ensures { result ≡ contains (names_of (latest_first visible.now)) name.now }
-{
-    let mut rest = visible.len();
-    while rest > 0 {
-        rest -= 1;
-        let found = &visible[rest];
-        if found.is_named(name) {
-            return true;
-        }
-    }
-    false
-}
 
 impl Scopes {
     /// No names are in scope.
@@ -42,24 +17,20 @@ impl Scopes {
         ensures { state_of result ≡ no_state }
     {
         Scopes {
-            visible: Vec::new(alloc),
+            visible: InScope::new(alloc),
             start: 0,
             next: 0,
         }
-    }
-
-    /// What is visible, the innermost last.
-    pub(crate) fn visible(&self) -> &[Visible]
-        ensures { map visible_of (latest_first result.now) ≡ (state_of self.now).visible }
-    {
-        self.visible.as_slice()
     }
 
     /// Whether the innermost scope has the name.
     pub(crate) fn has_own(&self, name: &[u8]) -> bool
         ensures { result ≡ contains (state_of self.now).own name.now }
     {
-        has_name(&self.visible[self.start..], name)
+        match self.visible.place_of(name) {
+            Some(place) => self.start <= place,
+            None => false,
+        }
     }
 
     /// Declares the name as the next local.
@@ -70,9 +41,7 @@ impl Scopes {
     {
         match self.next.checked_add(1) {
             Some(next) => {
-                let local = self.next;
-                let name = Vec::from_slice(*self.visible.allocator(), name)?;
-                self.visible.push(Visible { name, local })?;
+                self.visible.push(name, self.next)?;
                 self.next = next;
                 Ok(())
             }
@@ -83,8 +52,8 @@ impl Scopes {
     /// A new scope inside; where the outer one begins.
     pub(crate) fn enter(&mut self) -> usize
         ensures entered { state_of self.new ≡ entered (state_of self.old) }
-        ensures visible { self.new.visible.items ≡ self.old.visible.items }
-        ensures inner { self.new.start ≡ length self.old.visible.items }
+        ensures visible { self.new.visible ≡ self.old.visible }
+        ensures inner { self.new.start ≡ length self.old.visible }
         ensures outer { result ≡ self.old.start }
     {
         let start = self.start;
@@ -95,7 +64,7 @@ impl Scopes {
     /// The end of the innermost scope, in an outer one that begins there.
     pub(crate) fn leave(&mut self, start: usize)
         requires { start ≤ self.old.start }
-        ensures visible { self.new.visible.items ≡ take self.old.start self.old.visible.items }
+        ensures visible { self.new.visible ≡ take self.old.start self.old.visible }
         ensures start { self.new.start ≡ start }
         ensures next { self.new.next ≡ self.old.next }
     {
