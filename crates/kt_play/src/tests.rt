@@ -5,6 +5,7 @@ mod grammar;
 mod syntax;
 mod threads;
 mod typing;
+mod versions;
 
 use crate::play::play;
 use crate::status::{Cause, Status, Which};

@@ -17,6 +17,3 @@ pub use global::{GlobalDecl, Init};
 pub use lists::{Functions, Globals, Literals, Locals};
 pub use stmt::Stmt;
 pub use version::{Version, version_law};
-
-#[cfg(test)]
-mod tests;

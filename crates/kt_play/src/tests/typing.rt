@@ -183,7 +183,7 @@ no noted local: int f(int x) E_NOTELOCALS { return `MIGRATE_LOCAL(1); } int main
 no noted local: int f(int a) E_NOTELOCALS { { int `a; } } int main() { }
 ";
 
-fn read(alloc: Global, bytes: &[u8]) -> Result<File, SyntaxFault> {
+pub(crate) fn read(alloc: Global, bytes: &[u8]) -> Result<File, SyntaxFault> {
     if bytes.len() > 100_000 {
         return Err(SyntaxFault::NoMemory);
     }
