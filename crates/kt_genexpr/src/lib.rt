@@ -4,8 +4,10 @@
 
 mod copies;
 mod emit;
+mod generate;
 mod laws;
 mod resolve;
 
 pub use emit::emit_expr;
+pub use generate::gen_expr;
 pub use laws::{exact_law, expression_law};
