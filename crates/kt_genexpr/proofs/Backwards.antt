@@ -5,7 +5,7 @@ use Rattle.kt_types.specs.Table.{Table}
 use Rattle.kt_tree.specs.declared.expr.Expr.{Expr}
 use Rattle.kt_tree.specs.declared.expr.Operation.{Operation}
 use Rattle.kt_tree.specs.declared.expr.Request.{Request}
-use Rattle.kt_tree.specs.Tree.{Expression, LocalSet, LocalSwapped, Operated, Requested, Modified, Both, Either, Chosen, Called, Expressions, expression_of, expressions_of}
+use Rattle.kt_tree.specs.Tree.{Expression, Operated, Requested, Modified, Called, Expressions, expression_of, expressions_of}
 use Rattle.kt_tree.specs.Version.{Program}
 use Rattle.kt_code.specs.declared.instr.Instr.{Instr}
 use Rattle.kt_code.specs.declared.instr.Instr.TheVariants as instr

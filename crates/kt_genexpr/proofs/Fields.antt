@@ -1,6 +1,6 @@
 -- The cells before a field of a struct.
 use native.Mathlib.Numerals.{unary_clauses}
-use Rattle.std.proofs.Common.{◌≡◌, ℕ, zero, suc, ◌+◌, ◌<◌, ◌≤◌, List, [], ◌∷◌, length, take, get_or, refl, ap, ◌∙◌, arith, min}
+use Rattle.std.proofs.Common.{◌≡◌, ℕ, zero, suc, ◌+◌, ◌<◌, List, [], ◌∷◌, length, take, get_or, refl, ap, ◌∙◌, arith, min}
 use Rattle.kt_types.specs.Layout.{cells, cells_before}
 use Rattle.kt_types.specs.Table.{Table}
 use Rattle.kt_types.specs.declared.kinds.FieldDecl.{FieldDecl}

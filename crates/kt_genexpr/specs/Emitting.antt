@@ -1,6 +1,5 @@
 -- The instructions of an expression of a program, and where its types are right.
-use Rattle.std.specs.Prelude.{◌≡◌, ℕ, Bool, List, slice_get, Some}
-use Rattle.kt_tree.specs.declared.expr.Operation.{Operation}
+use Rattle.std.specs.Prelude.{◌≡◌, ℕ, List, slice_get, Some}
 use Rattle.kt_tree.specs.Tree.{Expression, Expressions, Function}
 use Rattle.kt_tree.specs.Typed.{Kind, kind}
 use Rattle.kt_tree.specs.Version.{Program, scope_of}

@@ -1,9 +1,9 @@
-use Rattle.std.proofs.Common.{◌≡◌, ap, ◌∙◌}
+use Rattle.std.proofs.Common.{ap, ◌∙◌}
 use Rattle.std.proofs.lemmas.Result.{on_ok_weaker}
 use Rattle.kt_tree.specs.Forms.{operation_form, request_form, call_form, set_form, swap_form, modify_form, and_form, or_form, choice_form}
 use Rattle.kt_tree.specs.Tree.{expression_of, expressions_of, LocalSet, LocalSwapped, Operated, Requested, Modified, Both, Either, Chosen, Called}
 use Rattle.kt_code.specs.declared.instr.Instr.TheVariants as instr
-use Rattle.kt_genexpr.specs.Emitting.{code_in, codes_in}
+use Rattle.kt_genexpr.specs.Emitting.{code_in}
 use Rattle.kt_genexpr.proofs.Backwards.{as-form, last-put, logical-put, choice-put, operated-put, requested-put, called-put, modified-put}
 use Rattle.kt_genexpr.proofs.emit.+emit.Goals as goal
 
