@@ -5,4 +5,5 @@ pub mod Frames
 pub mod Looks
 pub mod Machine
 pub mod Requests
+pub mod SameActs
 pub mod Settling

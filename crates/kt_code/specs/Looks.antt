@@ -1,8 +1,10 @@
 -- How threads of the tree and of code look, and the two kinds of threads.
 use Rattle.std.specs.Prelude.{ℕ, map}
+use Rattle.kt_mem.specs.declared.steps.Reply.{Reply}
+use Rattle.kt_meaning.specs.Steps.{Settles, after_reply}
 use Rattle.kt_meaning.specs.Thread.{Thread, Frame as TreeFrame}
 use Rattle.kt_meaning.specs.TreeSteps.{Version, step as tree_step}
-use Rattle.kt_code.specs.Agreement.{Called, Look, Kind, DoesSameActs, Agree}
+use Rattle.kt_code.specs.Agreement.{Called, Look, Kind, IsReplyTo, DoesSameActs, Agree}
 use Rattle.kt_code.specs.Code.{Code}
 use Rattle.kt_code.specs.Machine.{step as code_step}
 use Rattle.kt_code.specs.declared.frame.Frame.{Frame}
@@ -33,3 +35,10 @@ abbrev pub AgreementIsSameActs : Type 0
 AgreementIsSameActs =
     (s : Version) (c : Code) (x : Thread) (y : Private) → ((n : ℕ) → Agree (tree_threads s) (code_threads c) n x y) →
     DoesSameActs (tree_threads s) (code_threads c) x y
+
+-- where both have settled, after a reply of the act's kind they do the same acts again
+abbrev pub SameActsGoOn : Type 0
+SameActsGoOn =
+    (s : Version) (c : Code) (x p : Thread) (y q : Private) → Settles (tree_step s) x p → Settles (code_step c) y q →
+    DoesSameActs (tree_threads s) (code_threads c) x y → (r : Reply) → IsReplyTo (tree_step s p) r →
+    DoesSameActs (tree_threads s) (code_threads c) (after_reply p (tree_step s p) r) (after_reply q (code_step c q) r)

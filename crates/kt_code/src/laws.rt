@@ -1,6 +1,6 @@
 //! Laws of code, each the contract of a function that does nothing.
 ghost use Rattle.kt_meaning.specs.Steps.{Settles};
-ghost use Rattle.kt_code.specs.Looks.{AgreementIsSameActs};
+ghost use Rattle.kt_code.specs.Looks.{AgreementIsSameActs, SameActsGoOn};
 ghost use Rattle.kt_code.specs.Machine.{step};
 ghost use Rattle.kt_code.specs.Settling.{settle};
 
@@ -15,7 +15,9 @@ pub fn settle_law(code: &Code, private: &Private)
     let _ = code.instrs();
 }
 
-/// A thread of a tree and one of code that agree on all numbers of replies do the same acts on all lists of replies.
+/// A thread of a tree and one of code that agree on all numbers of replies do the same acts on all lists of replies; and
+/// where both have settled, they do the same acts again after each reply of the act's kind.
 pub fn agreement_law()
-    ensures { AgreementIsSameActs }
+    ensures same_acts { AgreementIsSameActs }
+    ensures onward { SameActsGoOn }
 {}

@@ -5,13 +5,14 @@ use Rattle.kt_tree.specs.declared.expr.Request.{Request}
 use Rattle.kt_tree.specs.Kinds.{Scope, is_scalar, is_operation, is_request}
 use Rattle.kt_tree.specs.Tree.{Expression, Constant', LocalRead, LocalSet, LocalSwapped, Operated, Requested, Modified, Both, Either, Chosen, Called, Expressions, NoMore, More, Function}
 use Rattle.kt_tree.specs.Typed.{Kind, Of, kind, types, value_type}
-use Rattle.kt_tree.specs.Version.{IsProgram, scope_of}
+use Rattle.kt_tree.specs.Version.{Program, IsProgram, scope_of}
+use Rattle.kt_meaning.specs.Laws.{numbered}
 use Rattle.kt_meaning.specs.TreeSteps.{Version}
 use Rattle.kt_code.specs.Code.{Code}
 use Rattle.kt_code.specs.declared.instr.Instr.{Instr}
 use Rattle.kt_code.specs.declared.instr.Instr.TheVariants as instr
 use Rattle.kt_genexpr.specs.ExpressionCode.{type_at, count, locals_of, operation_code, request_code, kept_code, conversion_code, storing_code, expression_code, expressions_code}
-use Rattle.kt_genexpr.specs.Generates.{HasAt, DoesCallsUnder, ExpressionsDo}
+use Rattle.kt_genexpr.specs.Generates.{HasAt, DoesExpr, DoesCallsUnder, ExpressionsDo, CodesGenerate}
 use Rattle.kt_genexpr.proofs.Forms.{Does, DoesAll, does-constant, does-read, does-set, does-swap, does-both, does-either, does-choice, does-none, does-more, does-operated, does-requested, does-called}
 use Rattle.kt_genexpr.proofs.Modifying.{does-modified}
 use Rattle.kt_genexpr.proofs.OperationCode.{scalar-there, there-is, operation-does}
@@ -205,3 +206,15 @@ pub expressions-do-it : (s : Version) → IsProgram s.program → (c : Code) →
 expressions-do-it s program c f e k typed p h n calls =
     let le : n ≤ n = omega arith in
     expression-does s program c f n calls e k typed p h n le
+
+pub codes-generate : (p : Program) → IsProgram p → CodesGenerate p
+codes-generate p program f e k old typed =
+    let code = expression_code p.types p.functions e in
+    let long = length-append old code in
+    record {
+      added = code;
+      is = refl;
+      does = λ number c n stands calls.
+          subst (λ to. DoesExpr (numbered p number) c n e (length old) to) (sym long)
+          (expressions-do-it (numbered p number) program c f e k typed (length old) stands n calls);
+    }

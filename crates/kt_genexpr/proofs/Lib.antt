@@ -1,4 +1,5 @@
 pub mod Agreeing
+pub mod Exact
 pub mod Expressions
 pub mod Forms
 pub mod Modifying

@@ -1,17 +1,21 @@
 -- What it is for code to do the acts of an expression: whatever agrees after it agrees before it.
-use Rattle.std.specs.Prelude.{◌≡◌, ℕ, suc, ◌+◌, ◌<◌, ◌≤◌, List, [], ◌∷◌, ◌++◌, length, map, reverse, slice_get, Some}
+use Rattle.std.specs.Prelude.{◌≡◌, ℕ, ℤ, suc, ◌+◌, ◌<◌, ◌≤◌, List, [], ◌∷◌, ◌++◌, length, map, reverse, slice_get, Some}
 use Rattle.kt_mem.specs.declared.memory.Value.{Value}
+use Rattle.kt_mem.specs.declared.memory.Value.TheVariants.{Num}
 use Rattle.kt_tree.specs.Tree.{Expression, Expressions, Function}
 use Rattle.kt_tree.specs.Typed.{Kind, kind}
-use Rattle.kt_tree.specs.Version.{scope_of}
-use Rattle.kt_meaning.specs.Thread.{Use, Eval, Have, Work, Frame as TreeFrame, Restart, Context, at}
+use Rattle.kt_tree.specs.Version.{Program, scope_of}
+use Rattle.kt_meaning.specs.Laws.{numbered}
+use Rattle.kt_meaning.specs.Steps.{Comes}
+use Rattle.kt_meaning.specs.Thread.{Use, Eval, Have, Wait, Returns, Work, Frame as TreeFrame, Restart, Context, at}
 use Rattle.kt_meaning.specs.TreeSteps.{Version, step as tree_step, function_at, enter, use_step, operands_step}
 use Rattle.kt_code.specs.Agreement.{Agree}
 use Rattle.kt_code.specs.Code.{Code}
 use Rattle.kt_code.specs.Looks.{tree_call, code_call, tree_threads, code_threads}
-use Rattle.kt_code.specs.Machine.{Here, stands, entry_frame, enters}
+use Rattle.kt_code.specs.Machine.{Here, stands, entry_frame, enters, step as code_step}
 use Rattle.kt_code.specs.declared.frame.Frame.{Frame}
 use Rattle.kt_code.specs.declared.instr.Instr.{Instr}
+use Rattle.kt_code.specs.declared.instr.Instr.TheVariants as instr
 use Rattle.kt_genexpr.specs.ExpressionCode.{count, expression_code}
 
 -- the instructions stand in these at this place
@@ -90,3 +94,32 @@ ExpressionsDo s c =
     (f : Function) (e : Expression) (k : Kind) → kind (scope_of s.program f) e ≡ Some k → (p : ℕ) →
     HasAt c.instrs p (expression_code s.program.types s.program.functions e) → (n : ℕ) → DoesCallsUnder s c n →
     DoesExpr s c n e p (p + length (expression_code s.program.types s.program.functions e))
+
+-- what was added to some code does the expression of a version, in whatever code it comes to stand there
+pub record Generates (p : Program) (e : Expression) (old new : List Instr) : Type 0 where
+  pub added : List Instr
+  pub is : new ≡ old ++ added
+  pub does : (number : ℕ) (c : Code) (n : ℕ) → HasAt c.instrs (length old) added → DoesCallsUnder (numbered p number) c n →
+      DoesExpr (numbered p number) c n e (length old) (length new)
+
+-- so it is where the code of a typed expression was added
+abbrev pub CodesGenerate : Program → Type 0
+CodesGenerate p =
+    (f : Function) (e : Expression) (k : Kind) (old : List Instr) → kind (scope_of p f) e ≡ Some k →
+    Generates p e old (old ++ expression_code p.types p.functions e)
+
+-- ---- no other value
+
+-- the bottom frame of a thread
+abbrev pub bottom : ℕ → List Value → Restart → Context
+bottom g locals r = record { function = g; locals = locals; below = []; restart = r }
+
+-- where an expression of `main` quietly gives a number, code that does it and then returns leaves that number
+abbrev pub IsExact : Version → Code → Type 0
+IsExact s c =
+    (e : Expression) (from to : ℕ) → slice_get c.instrs to ≡ Some instr.Return → DoesExpr s c 1 e from to →
+    (g : ℕ) (f : Function) (t : ℕ) → function_at s g ≡ Some f → f.result ≡ Some t →
+    (locals : List Value) (r : Restart) (k l : ℕ) (a b : ℤ) →
+    Comes (tree_step s) k (at (bottom g locals r) (Eval e ∷ Wait Returns ∷ [])) (at (bottom g locals r) (Have (Num a) ∷ Wait Returns ∷ [])) →
+    Comes (code_step c) l (stands (beside s (bottom g locals r) [] from) []) (stands (beside s (bottom g locals r) [] to) (Num b ∷ [])) →
+    a ≡ b

@@ -4,4 +4,4 @@
 
 mod laws;
 
-pub use laws::expression_law;
+pub use laws::{exact_law, expression_law};
