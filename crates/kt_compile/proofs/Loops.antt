@@ -15,11 +15,12 @@ use Rattle.kt_code.specs.declared.instr.Instr.{Instr}
 use Rattle.kt_code.specs.declared.instr.Instr.TheVariants as instr
 use Rattle.kt_genexpr.specs.Generates.{HasAt, LookAlike, beside, later, AgreeAt, DoesCallsUnder, ExpressionsDo}
 use Rattle.kt_genexpr.proofs.Agreeing.{look-alike, there, moved}
+use Rattle.kt_genexpr.proofs.ExpressionJumps.{one-more-length}
 use Rattle.kt_genexpr.proofs.Places.{has-front, has-back}
 use Rattle.kt_compile.specs.StatementCode.{dropped_code}
 use Rattle.kt_compile.specs.StatementActs.{AfterWork, GoesOn}
 use Rattle.kt_compile.proofs.Agreeing.{fewer-calls, test-agrees, ticks-agree}
-use Rattle.kt_compile.proofs.Places.{around, one-more-length, IsTurn}
+use Rattle.kt_compile.proofs.Places.{around, IsTurn}
 use Rattle.kt_compile.proofs.StatementTypes.{IsTyped, IsTypedStep}
 use Rattle.kt_compile.proofs.Codes.{code_of, step_of}
 use Rattle.kt_compile.proofs.GoingOn.{fewer, in-loop, BodyDoes}

@@ -63,6 +63,3 @@ turn-length body behind back =
 pub choice-length : (test first second : List Instr) → length (choice_code test first second) ≡ suc (suc (length test + length first + length second))
 choice-length test first second =
     omega (arith, length-append test (instr.SkipIfZero (suc (length first)) ∷ (first ++ (instr.Skip (length second) ∷ second))), length-append first (instr.Skip (length second) ∷ second))
-
-pub one-more-length : (a : List Instr) (i : Instr) → length (a ++ i ∷ []) ≡ suc (length a)
-one-more-length a i = omega (arith, length-append a (i ∷ []))

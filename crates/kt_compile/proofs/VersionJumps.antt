@@ -3,7 +3,8 @@ use Rattle.std.proofs.Common.{arith}
 use Rattle.kt_tree.specs.Version.{Program}
 use Rattle.kt_code.specs.Settling.{HasJumps}
 use Rattle.kt_compile.specs.VersionCode.{functions_code, version_code}
-use Rattle.kt_compile.proofs.Jumps.{functions-jumps, all-jump}
+use Rattle.kt_genexpr.proofs.ExpressionJumps.{all-jump}
+use Rattle.kt_compile.proofs.Jumps.{functions-jumps}
 use Rattle.kt_compile.proofs.Places.{has-itself}
 
 pub version-jumps : (p : Program) → HasJumps (version_code p).instrs
