@@ -8,8 +8,10 @@ mod entering;
 mod execute;
 mod heads;
 mod jumps;
+mod laws;
 mod locals;
 mod operations;
+mod pairs;
 mod replies;
 mod request_values;
 mod requests;
@@ -17,5 +19,7 @@ mod settling;
 mod stack;
 mod top;
 
+pub use laws::rename_law;
+pub use pairs::NamePairs;
 pub use replies::answer;
 pub use settling::settle;
