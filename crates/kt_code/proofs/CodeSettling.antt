@@ -6,7 +6,6 @@ use Rattle.kt_mem.specs.declared.memory.Value.{Value}
 use Rattle.kt_mem.specs.declared.memory.Value.TheVariants.{Num, Null, Ptr, Free, Held, Undef}
 use Rattle.kt_mem.specs.declared.steps.Act.{Act}
 use Rattle.kt_mem.specs.declared.steps.Trap.{Trap}
-use Rattle.kt_mem.specs.Arithmetic.{moved, sum_of, difference_of, product_of, quotient_of, remainder_of, narrowed}
 use Rattle.kt_mem.specs.Comparisons.{zero_test}
 use Rattle.kt_mem.specs.Values.{truth}
 use Rattle.kt_tree.specs.declared.expr.Request.{Request}
@@ -15,7 +14,7 @@ use Rattle.kt_meaning.specs.Requests.{act_of}
 use Rattle.kt_meaning.specs.Thread.{defined_if}
 use Rattle.kt_meaning.proofs.Settling.{settle_by-quiet, settle_by-rests, settle_by-settles}
 use Rattle.kt_code.specs.Code.{Code}
-use Rattle.kt_code.specs.Machine.{Here, frame_here, stands, passes, goes_back, with_local, goes, gives, tested, on_top, on_two, on_list, unary, binary, swaps, asks, calls, falls_to, main_returns, returns, leaves, do_one, instr_step, here, frames_step, step}
+use Rattle.kt_code.specs.Machine.{Here, passes, goes_back, with_local, goes, gives, tested, on_top, on_two, on_list, unary, binary, swaps, asks, calls, main_returns, returns, leaves, do_one, instr_step, here, frames_step, step}
 use Rattle.kt_code.specs.Requests.{operand_count, untyped}
 use Rattle.kt_code.specs.Settling.{IsJump, HasJumps, is_tick, room, rooms, weight, settle}
 use Rattle.kt_code.specs.declared.frame.Frame.{Frame}

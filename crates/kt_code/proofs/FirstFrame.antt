@@ -1,5 +1,5 @@
 -- The first frame, where frames are kept with the first one last.
-use Rattle.std.specs.Prelude.{◌≡◌, ℕ, suc, List, [], ◌∷◌, length, reverse, drop, slice_set, slice_index_or}
+use Rattle.std.specs.Prelude.{◌≡◌, ℕ, suc, List, ◌∷◌, length, reverse, drop, slice_set, slice_index_or}
 use Rattle.std.proofs.Common.{ap, sym, ◌∙◌}
 use Rattle.kt_code.proofs.Turned.{reverse-first, reverse-set}
 use Rattle.kt_code.specs.Frames.{with_place, with_first_local}

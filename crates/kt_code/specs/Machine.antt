@@ -1,6 +1,5 @@
 -- What one instruction does to a private state, one equation an instruction.
 use Rattle.std.specs.Prelude.{ℕ, suc, pos, ◌+◌, ◌-◌, nat_le, Bool, true, false, List, [], ◌∷◌, ◌++◌, length, take, drop, reverse, replicate, slice_get, slice_set, Option, None, Some, Result, Ok, Err, if◌then◌else◌}
-use Rattle.kt_types.specs.Table.{Table}
 use Rattle.kt_tree.specs.declared.expr.Request.{Request}
 use Rattle.kt_mem.specs.declared.memory.Name.TheVariants.{Glob, Lit}
 use Rattle.kt_mem.specs.declared.memory.Value.{Value}

@@ -4,7 +4,7 @@ use Rattle.kt_mem.specs.declared.steps.Act.{Act}
 use Rattle.kt_mem.specs.declared.steps.Act.TheVariants as act
 use Rattle.kt_mem.specs.declared.steps.Reply.{Reply}
 use Rattle.kt_tree.specs.Kinds.{fits_in}
-use Rattle.kt_meaning.specs.Steps.{Step, Quiet, Acts, Traps, Ends, settle_by, after_reply}
+use Rattle.kt_meaning.specs.Steps.{Step, Quiet, Acts, Traps, Ends, settle_by}
 use Rattle.kt_code.specs.Agreement.{IsAnswer}
 use Rattle.kt_code.specs.Code.{Code}
 use Rattle.kt_code.specs.Machine.{step}

@@ -35,6 +35,10 @@ impl Operand {
 }
 
 impl Default for Operand {
+    ghost use Rattle.kt_mem.specs.declared.memory.Value.TheVariants.{Undef};
+
+    ghost is_default = { λ o. o ≡ Undef };
+
     fn default() -> Operand {
         Operand {
             value: Value::Undef,

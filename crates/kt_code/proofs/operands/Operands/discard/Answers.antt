@@ -1,4 +1,4 @@
-use Rattle.std.proofs.Common.{sym, ap, ◌∙◌, reverse, drop}
+use Rattle.std.proofs.Common.{sym}
 use Rattle.kt_code.proofs.Turned.{drop-reverse}
 use Rattle.kt_code.proofs.operands.Operands.discard.Goals as goal
 
