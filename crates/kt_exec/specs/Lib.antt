@@ -1,0 +1,4 @@
+pub mod Apart
+pub mod Operations
+pub mod Renaming
+pub mod Requests

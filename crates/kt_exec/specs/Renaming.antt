@@ -1,0 +1,151 @@
+-- Renaming: heap objects under other names.
+use Rattle.std.specs.Prelude.{◌≡◌, ◌⊎◌, ℕ, ◌==◌, List, [], ◌∷◌, map, Option, None, Some, if◌then◌else◌}
+use Rattle.kt_mem.specs.declared.memory.Name.{Name}
+use Rattle.kt_mem.specs.declared.memory.Name.TheVariants.{Glob, Lit, Heap}
+use Rattle.kt_mem.specs.declared.memory.Value.{Value}
+use Rattle.kt_mem.specs.declared.memory.Value.TheVariants.{Num, Null, Ptr, Free, Held, Undef}
+use Rattle.kt_mem.specs.declared.steps.Act.{Act}
+use Rattle.kt_mem.specs.declared.steps.Act.TheVariants as act
+use Rattle.kt_mem.specs.declared.steps.Piece.{Piece}
+use Rattle.kt_mem.specs.declared.steps.Piece.TheVariants as piece
+use Rattle.kt_mem.specs.declared.steps.Reply.{Reply}
+use Rattle.kt_mem.specs.declared.steps.Reply.TheVariants.{Done, Got, Trapped}
+use Rattle.kt_mem.specs.declared.thread.KeptLocal.{KeptLocal}
+use Rattle.kt_code.specs.declared.frame.Frame.{Frame}
+use Rattle.kt_code.specs.declared.private.Private.{Private}
+use Rattle.kt_code.specs.declared.private.Head.{Head}
+use Rattle.kt_code.specs.declared.private.Head.TheVariants as head
+
+-- ---- everything with its heap names renamed by a function
+
+abbrev pub rename_name : (ℕ → ℕ) → Name → Name
+rename_name f (Glob i) = Glob i
+rename_name f (Lit v i) = Lit v i
+rename_name f (Heap a) = Heap (f a)
+
+abbrev pub rename_value : (ℕ → ℕ) → Value → Value
+rename_value f (Num n) = Num n
+rename_value f Null = Null
+rename_value f (Ptr n k) = Ptr (rename_name f n) k
+rename_value f Free = Free
+rename_value f (Held thread) = Held thread
+rename_value f Undef = Undef
+
+abbrev pub rename_values : (ℕ → ℕ) → List Value → List Value
+rename_values f vs = map (rename_value f) vs
+
+abbrev pub rename_frame : (ℕ → ℕ) → Frame → Frame
+rename_frame f x = record x { locals = rename_values f x.locals }
+
+abbrev pub rename_frames : (ℕ → ℕ) → List Frame → List Frame
+rename_frames f xs = map (rename_frame f) xs
+
+abbrev pub rename_kept_local : (ℕ → ℕ) → KeptLocal → KeptLocal
+rename_kept_local f k = record k { value = rename_value f k.value }
+
+abbrev pub rename_kept : (ℕ → ℕ) → List KeptLocal → List KeptLocal
+rename_kept f ks = map (rename_kept_local f) ks
+
+abbrev pub rename_private : (ℕ → ℕ) → Private → Private
+rename_private f p = record {
+  version = p.version;
+  frames = rename_frames f p.frames;
+  operands = rename_values f p.operands;
+  mode = p.mode;
+  locals = rename_kept f p.locals;
+}
+
+abbrev pub rename_piece : (ℕ → ℕ) → Piece → Piece
+rename_piece f (piece.Bytes bytes) = piece.Bytes bytes
+rename_piece f (piece.Number n) = piece.Number n
+rename_piece f (piece.Byte b) = piece.Byte b
+rename_piece f (piece.TextAt v) = piece.TextAt (rename_value f v)
+
+abbrev pub rename_pieces : (ℕ → ℕ) → List Piece → List Piece
+rename_pieces f xs = map (rename_piece f) xs
+
+abbrev pub rename_act : (ℕ → ℕ) → Act → Act
+rename_act f act.Tick = act.Tick
+rename_act f (act.Load p t) = act.Load (rename_value f p) t
+rename_act f (act.Store p t v) = act.Store (rename_value f p) t (rename_value f v)
+rename_act f (act.Allocate e n zeros) = act.Allocate e n zeros
+rename_act f (act.Release p) = act.Release (rename_value f p)
+rename_act f (act.Lock p) = act.Lock (rename_value f p)
+rename_act f (act.Unlock p) = act.Unlock (rename_value f p)
+rename_act f (act.InitMutex p) = act.InitMutex (rename_value f p)
+rename_act f act.GetChar = act.GetChar
+rename_act f (act.Print ps) = act.Print (rename_pieces f ps)
+rename_act f (act.Create g v) = act.Create g (rename_value f v)
+rename_act f (act.Join n) = act.Join n
+rename_act f (act.Point n) = act.Point n
+rename_act f (act.MigrateLocal g n) = act.MigrateLocal g n
+rename_act f act.Automigrate = act.Automigrate
+rename_act f (act.UpdatingTest n) = act.UpdatingTest n
+rename_act f act.ThreadEnd = act.ThreadEnd
+rename_act f (act.MainReturn n) = act.MainReturn n
+
+abbrev pub rename_reply : (ℕ → ℕ) → Reply → Reply
+rename_reply f Done = Done
+rename_reply f (Got v) = Got (rename_value f v)
+rename_reply f (Trapped t) = Trapped t
+
+-- an act is renamed, a trap stays the same
+abbrev pub rename_head : (ℕ → ℕ) → Option Head → Option Head
+rename_head f None = None
+rename_head f (Some (head.Act a)) = Some (head.Act (rename_act f a))
+rename_head f (Some (head.Trap t)) = Some (head.Trap t)
+
+-- ---- renaming by pairs
+
+abbrev pub Pairs : Type 0
+Pairs = List (ℕ × ℕ)
+
+-- the new name of an old one
+abbrev pub renamed : Pairs → ℕ → ℕ
+renamed [] a = a
+renamed (p ∷ ps) a = if p.0 == a then p.1 else renamed ps a
+
+-- a name is an old one, or a new one
+abbrev pub IsOld : Pairs → ℕ → Type 0
+IsOld [] a = ⊥
+IsOld (p ∷ ps) a = (p.0 ≡ a) ⊎ IsOld ps a
+
+abbrev pub IsNew : Pairs → ℕ → Type 0
+IsNew [] a = ⊥
+IsNew (p ∷ ps) a = (p.1 ≡ a) ⊎ IsNew ps a
+
+-- no old name and no new one stands twice
+abbrev pub AreOneToOne : Pairs → Type 0
+AreOneToOne [] = Unit {0}
+AreOneToOne (p ∷ ps) = (IsOld ps (p.0) → ⊥) × (IsNew ps (p.1) → ⊥) × AreOneToOne ps
+
+-- ---- heap names among those of which P holds
+
+abbrev pub NameIn : (ℕ → Type 0) → Name → Type 0
+NameIn P (Glob i) = Unit {0}
+NameIn P (Lit v i) = Unit {0}
+NameIn P (Heap a) = P a
+
+abbrev pub ValueIn : (ℕ → Type 0) → Value → Type 0
+ValueIn P (Ptr n k) = NameIn P n
+ValueIn P _ = Unit {0}
+
+abbrev pub ValuesIn : (ℕ → Type 0) → List Value → Type 0
+ValuesIn P [] = Unit {0}
+ValuesIn P (v ∷ vs) = ValueIn P v × ValuesIn P vs
+
+abbrev pub FramesIn : (ℕ → Type 0) → List Frame → Type 0
+FramesIn P [] = Unit {0}
+FramesIn P (x ∷ xs) = ValuesIn P x.locals × FramesIn P xs
+
+abbrev pub KeptIn : (ℕ → Type 0) → List KeptLocal → Type 0
+KeptIn P [] = Unit {0}
+KeptIn P (k ∷ ks) = ValueIn P k.value × KeptIn P ks
+
+abbrev pub PrivateIn : (ℕ → Type 0) → Private → Type 0
+PrivateIn P p = FramesIn P p.frames × ValuesIn P p.operands × KeptIn P p.locals
+
+abbrev pub ReplyIn : (ℕ → Type 0) → Reply → Type 0
+ReplyIn P Done = Unit {0}
+ReplyIn P (Got v) = ValueIn P v
+ReplyIn P (Trapped t) = Unit {0}
