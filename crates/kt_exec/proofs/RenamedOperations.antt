@@ -1,7 +1,7 @@
 -- Operations on renamed values give the renamed results, where the renaming keeps different names different.
-use Rattle.std.specs.Prelude.{◌≡◌, ℕ, zero, suc, ℤ, pos, negsuc, ◌+ℤ◌, ◌-ℤ◌, ◌*ℤ◌, int_div, int_rem, int_lt, int_le, ◌^◌, nat_le, ◌==◌, ◌&&◌, Bool, true, false, List, [], ◌∷◌, Option, None, Some, Result, Ok, Err, slice_get, if◌then◌else◌, refl}
+use Rattle.std.specs.Prelude.{◌≡◌, ℕ, zero, suc, ℤ, pos, negsuc, ◌+ℤ◌, ◌-ℤ◌, ◌*ℤ◌, int_div, int_rem, ◌^◌, nat_le, ◌==◌, ◌&&◌, Bool, true, false, List, [], ◌∷◌, Result, Ok, Err, slice_get, if◌then◌else◌, refl}
 use Rattle.std.specs.Result.{result_and}
-use Rattle.std.proofs.Common.{sym, ap, ◌∙◌}
+use Rattle.std.proofs.Common.{ap, ◌∙◌}
 use Rattle.kt_types.specs.declared.kinds.Ty.{Ty}
 use Rattle.kt_types.specs.declared.kinds.Ty.TheVariants as ty
 use Rattle.kt_mem.specs.declared.memory.Name.{Name}
@@ -10,10 +10,10 @@ use Rattle.kt_mem.specs.declared.memory.Value.{Value}
 use Rattle.kt_mem.specs.declared.memory.Value.TheVariants.{Num, Null, Ptr, Free, Held, Undef}
 use Rattle.kt_mem.specs.declared.steps.Trap.{Trap}
 use Rattle.kt_mem.specs.declared.steps.Trap.TheVariants as trap
-use Rattle.kt_mem.specs.Arithmetic.{fits, within, number, place, moved, offsets, on_offsets, on_numbers, at_pointer, at_long, sum_of, difference_of, product_of, quotient, quotient_of, remainder_of, narrowed}
-use Rattle.kt_mem.specs.Comparisons.{equality, zero_test, truth_of, falsehood_of, equal_value, not_equal_value, not_value, compared_numbers, compared, less_value, greater_value, less_equal_value, greater_equal_value, as_numbers}
+use Rattle.kt_mem.specs.Arithmetic.{fits, number, place, moved, offsets, on_offsets, on_numbers, at_pointer, at_long, sum_of, difference_of, product_of, quotient, quotient_of, remainder_of, narrowed}
+use Rattle.kt_mem.specs.Comparisons.{equality, zero_test, truth_of, falsehood_of, equal_value, not_equal_value, not_value, compared_numbers, compared, as_numbers}
 use Rattle.kt_mem.specs.Elements.{element_after, element_before, whole_elements, elements_between}
-use Rattle.kt_mem.specs.Values.{name_eq, int_eq, truth, defined}
+use Rattle.kt_mem.specs.Values.{name_eq, int_eq, defined}
 use Rattle.kt_meaning.specs.Operations.{element_sum}
 use Rattle.kt_meaning.specs.Thread.{defined_if}
 use Rattle.kt_exec.specs.Renaming.{rename_name, rename_value, rename_values}

@@ -1,5 +1,5 @@
 -- Requests on renamed values are the renamed acts, and give the renamed values.
-use Rattle.std.specs.Prelude.{◌≡◌, ℕ, ◌==◌, ◌&&◌, Bool, true, false, List, [], ◌∷◌, Option, None, Some, Result, Ok, Err, slice_set, if◌then◌else◌, refl}
+use Rattle.std.specs.Prelude.{◌≡◌, ℕ, ◌==◌, ◌&&◌, Bool, true, false, List, [], ◌∷◌, Option, None, Some, Result, Ok, Err, if◌then◌else◌, refl}
 use Rattle.std.specs.Option.{is_some}
 use Rattle.std.proofs.Common.{sym, ap, ◌∙◌}
 use Rattle.std.proofs.lemmas.List.{map-set}
@@ -20,10 +20,10 @@ use Rattle.kt_tree.specs.declared.expr.Part.TheVariants as part
 use Rattle.kt_tree.specs.declared.expr.Request.{Request}
 use Rattle.kt_tree.specs.declared.expr.Request.TheVariants as request
 use Rattle.kt_meaning.specs.Requests.{act_of, before, pieces, printed, request_value, stored_value, byte_value, byte_of, told}
-use Rattle.kt_meaning.specs.Thread.{Restart, is_updating, is_updating_from, value_for, kept_value, restart_after, set_if_some, locals_after}
+use Rattle.kt_meaning.specs.Thread.{Restart, is_updating, is_updating_from, value_for, kept_value, set_if_some}
 use Rattle.kt_code.specs.Machine.{Here, changed_by}
 use Rattle.kt_code.specs.Requests.{untyped}
-use Rattle.kt_exec.specs.Renaming.{rename_value, rename_values, rename_frames, rename_kept, rename_kept_local, rename_piece, rename_pieces, rename_act, rename_reply}
+use Rattle.kt_exec.specs.Renaming.{rename_value, rename_values, rename_frames, rename_kept, rename_piece, rename_pieces, rename_act, rename_reply}
 
 -- ---- acts
 

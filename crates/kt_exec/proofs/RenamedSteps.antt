@@ -1,5 +1,5 @@
 -- The step of a renamed thread is its renamed step, and it settles to the renamed settled thread.
-use Rattle.std.specs.Prelude.{◌≡◌, ℕ, zero, suc, pos, ◌+◌, ◌-◌, nat_le, Bool, true, false, List, [], ◌∷◌, ◌++◌, length, reverse, take, drop, replicate, map, slice_get, slice_set, Option, None, Some, Result, Ok, Err, if◌then◌else◌, refl}
+use Rattle.std.specs.Prelude.{◌≡◌, ℕ, zero, suc, pos, ◌+◌, ◌-◌, nat_le, Bool, true, false, List, [], ◌∷◌, ◌++◌, length, reverse, take, drop, replicate, map, slice_get, Option, None, Some, Result, Ok, Err, if◌then◌else◌, refl}
 use Rattle.std.proofs.Common.{sym, ap, subst, ◌∙◌}
 use Rattle.std.proofs.lemmas.List.{map-set, map-append, length-map, take-map, drop-map, reverse-append}
 use Rattle.kt_mem.specs.declared.memory.Value.{Value}
@@ -18,10 +18,10 @@ use Rattle.std.specs.Prelude.{int_lt, int_le}
 use Rattle.kt_tree.specs.declared.expr.Request.{Request}
 use Rattle.kt_meaning.specs.Operations.{element_sum}
 use Rattle.kt_meaning.specs.Requests.{act_of, request_value, told}
-use Rattle.kt_meaning.specs.Steps.{Step, Quiet, Acts, Traps, Ends, or_rest, settle_within, settle_by, after_reply}
+use Rattle.kt_meaning.specs.Steps.{Step, Quiet, Acts, Traps, Ends, or_rest, settle_within, after_reply}
 use Rattle.kt_meaning.specs.Thread.{defined_if}
 use Rattle.kt_code.specs.Code.{Code}
-use Rattle.kt_code.specs.Machine.{Here, stands, passes, goes_back, with_local, changed_by, goes, gives, tested, on_top, on_two, on_list, unary, binary, swaps, asks, entry_frame, enters, calls, falls_to, main_returns, returns, leaves, do_one, instr_step, here, frames_step, step}
+use Rattle.kt_code.specs.Machine.{Here, stands, passes, goes_back, with_local, changed_by, goes, gives, tested, on_top, on_two, on_list, unary, binary, swaps, asks, entry_frame, enters, calls, main_returns, returns, leaves, do_one, instr_step, here, frames_step, step}
 use Rattle.kt_code.specs.Requests.{operand_count, untyped}
 use Rattle.kt_code.specs.Settling.{room, rooms, weight, settle, head_of}
 use Rattle.kt_code.specs.declared.frame.Frame.{Frame}
