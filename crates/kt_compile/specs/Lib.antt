@@ -1,4 +1,3 @@
 pub mod StatementActs
 pub mod StatementCode
-pub mod VersionActs
 pub mod VersionCode
