@@ -1,6 +1,9 @@
 pub mod Agreeing
+pub mod Backwards
 pub mod Exact
+pub mod ExpressionJumps
 pub mod Expressions
+pub mod Fields
 pub mod Forms
 pub mod Modifying
 pub mod OperationCode
