@@ -3,4 +3,4 @@ use Rattle.kt_compile.proofs.Statements.{statements-do}
 use Rattle.kt_compile.proofs.laws.statement_law.Goals as goal
 
 pub returns : goal.returns
-returns c = λ n code. statements-do (numbered c.args.version.now n) code (c.expression_law.ensures n code)
+returns c = λ n code. statements-do (numbered c.args.version.now n) code (c.expression_law.ensures.does n code)
