@@ -1,5 +1,5 @@
 -- Instructions that are put from the last to the first: what stands there after each form of statement.
-use Rattle.std.proofs.Common.{◌≡◌, ℕ, suc, zero, ◌+◌, ◌-◌, ◌<◌, ◌≤◌, Bool, true, false, List, [], ◌∷◌, ◌++◌, length, reverse, drop, get_or, Option, None, Some, refl, sym, ap, ◌∙◌, arith, append_assoc, length-append}
+use Rattle.std.proofs.Common.{◌≡◌, ℕ, suc, ◌+◌, ◌-◌, ◌<◌, ◌≤◌, Bool, true, List, [], ◌∷◌, ◌++◌, length, reverse, drop, get_or, Option, None, Some, refl, sym, ap, ◌∙◌, arith, append_assoc, length-append}
 use Rattle.std.specs.Prelude.{slice_set}
 use Rattle.std.specs.Option.{is_some, option_map}
 use Rattle.std.proofs.lemmas.List.{append-nil, reverse-append}
@@ -13,7 +13,7 @@ use Rattle.kt_code.specs.declared.instr.Instr.TheVariants as instr
 use Rattle.kt_genexpr.specs.Emitting.{code_in}
 use Rattle.kt_genexpr.proofs.Backwards.{in-front, put-length, last-put, choice-put}
 use Rattle.kt_compile.specs.Emitting.{step_in, statement_in, statements_in, back, test_in, entry_code, Puts, PutsAll}
-use Rattle.kt_compile.specs.StatementCode.{turn_code, behind_body}
+use Rattle.kt_compile.specs.StatementCode.{turn_code}
 
 -- ---- loops
 
