@@ -27,7 +27,7 @@ use Rattle.kt_meaning.specs.ThreadTypes.{in_loop, Takes, Stands, AreFrames, IsTh
 use Rattle.kt_meaning.specs.TreeSteps.{Version, gives, tested, function_at, last_value, last_step, return_to, return_step, is_main, end_value, returns_if, end_step, call_step, asks, use_step, operands_step, eval_step, loop_step, next_step, begin_step, swap_step, fetch_step, store_step, change_step, take_step, have_step, work_step, frames_step, step}
 use Rattle.kt_meaning.proofs.OperationTypes.{HasScalars, scalars-HasScalars, truth-IsAt}
 use Rattle.kt_code.specs.Settling.{is_last}
-use Rattle.kt_compile.specs.VersionActs.{IsLastResult}
+use Rattle.kt_pair.specs.VersionActs.{IsLastResult}
 use Rattle.kt_compile.proofs.Mains.{main-result}
 use Rattle.kt_compile.proofs.StatementTypes.{void-return}
 

@@ -25,7 +25,7 @@ use Rattle.kt_genexpr.proofs.Places.{has-front, has-back}
 use Rattle.kt_compile.specs.StatementCode.{statement_code}
 use Rattle.kt_compile.specs.StatementActs.{AfterWork, AfterReturn, StatementsDo}
 use Rattle.kt_compile.specs.VersionCode.{end_code, function_code}
-use Rattle.kt_compile.specs.VersionActs.{entry_state}
+use Rattle.kt_pair.specs.VersionActs.{entry_state}
 use Rattle.kt_compile.proofs.Agreeing.{fewer-return, value-returned, void-returned}
 use Rattle.kt_compile.proofs.Mains.{main-result}
 

@@ -2,6 +2,7 @@ pub mod Agreeing
 pub mod Bottoms
 pub mod Calls
 pub mod Codes
+pub mod Emitted
 pub mod Entries
 pub mod GoingOn
 pub mod Jumps
@@ -10,6 +11,7 @@ pub mod Mains
 pub mod Places
 pub mod StatementTypes
 pub mod Statements
+pub mod Together
 pub mod Version
 pub mod VersionFits
 pub mod VersionJumps

@@ -3,7 +3,7 @@ use Rattle.kt_tree.specs.Version.{IsProgram}
 use Rattle.kt_meaning.specs.TreeSteps.{Version}
 use Rattle.kt_compile.specs.StatementActs.{StatementsDo}
 use Rattle.kt_compile.specs.VersionCode.{version_code}
-use Rattle.kt_compile.specs.VersionActs.{DoesVersion}
+use Rattle.kt_pair.specs.VersionActs.{DoesVersion}
 use Rattle.kt_compile.proofs.Calls.{entry-acts}
 use Rattle.kt_compile.proofs.Entries.{has-entries}
 

@@ -19,7 +19,7 @@ use Rattle.kt_code.specs.Machine.{step as code_step}
 use Rattle.kt_code.specs.Settling.{HasJumps, settle, is_last, FitsHead, FitsFor}
 use Rattle.kt_code.specs.declared.private.Private.{Private}
 use Rattle.kt_code.proofs.CodeSettling.{settle-settles}
-use Rattle.kt_compile.specs.VersionActs.{entry_state, IsLastResult, FitsEntries}
+use Rattle.kt_pair.specs.VersionActs.{entry_state, IsLastResult, FitsEntries}
 use Rattle.kt_compile.specs.VersionCode.{version_code}
 use Rattle.kt_compile.specs.StatementActs.{StatementsDo}
 use Rattle.kt_compile.proofs.Calls.{entry-agrees}

@@ -1,4 +1,4 @@
+pub mod Emitting
 pub mod StatementActs
 pub mod StatementCode
-pub mod VersionActs
 pub mod VersionCode

@@ -2,7 +2,7 @@
 ghost use Rattle.kt_code.specs.Code.{Code};
 ghost use Rattle.kt_code.specs.Settling.{HasJumps};
 ghost use Rattle.kt_compile.specs.StatementActs.{StatementsDo};
-ghost use Rattle.kt_compile.specs.VersionActs.{DoesVersion, FitsEntries};
+ghost use Rattle.kt_pair.specs.VersionActs.{DoesVersion, FitsEntries};
 ghost use Rattle.kt_compile.specs.VersionCode.{version_code};
 ghost use Rattle.kt_meaning.specs.Laws.{numbered};
 
