@@ -10,7 +10,7 @@ use Rattle.kt_meaning.specs.ThreadTypes.{IsRestart}
 use Rattle.kt_meaning.specs.TreeSteps.{Version, function_at}
 use Rattle.kt_code.specs.Agreement.{DoesSameActs}
 use Rattle.kt_code.specs.Code.{Code}
-use Rattle.kt_code.specs.Looks.{tree_threads, code_threads}
+use Rattle.kt_code.specs.Looks.{code_look, code_threads, tree_look, tree_threads}
 use Rattle.kt_code.specs.Machine.{entry_frame}
 use Rattle.kt_code.specs.Settling.{Fits}
 use Rattle.kt_code.specs.declared.private.Private.{Private}
@@ -40,3 +40,9 @@ abbrev pub FitsEntries : Version → Code → Type 0
 FitsEntries s c =
     (g at : ℕ) (f : Function) (arguments : List Value) (r : Restart) → function_at s g ≡ Some f → slice_get c.entries g ≡ Some at → IsLastResult f.result →
     AreAt s.program.types (head_of f).parameters arguments → IsRestart s.program r → Fits c (entry_state s.number at g f arguments r)
+
+-- the state at a function's entry looks like the tree's thread there
+abbrev pub EntriesLookAlike : Type 0
+EntriesLookAlike =
+    (version at g : ℕ) (f : Function) (arguments : List Value) (r : Restart) →
+    code_look (entry_state version at g f arguments r) ≡ tree_look (entry g f arguments r)

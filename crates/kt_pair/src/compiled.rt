@@ -1,7 +1,7 @@
 //! A version and its code.
 ghost use Rattle.std.specs.Prelude.{◌≡◌};
 ghost use Rattle.kt_meaning.specs.Laws.{numbered};
-ghost use Rattle.kt_pair.specs.VersionActs.{DoesVersion, FitsEntries};
+ghost use Rattle.kt_pair.specs.VersionActs.{DoesVersion, EntriesLookAlike, FitsEntries};
 
 use kt_code::Code;
 use kt_tree::Version;
@@ -63,3 +63,9 @@ pub fn compiled_law(compiled: &Compiled)
 {
     let _ = &compiled.version;
 }
+
+/// The state at a function's entry looks like the tree's thread there: the same function with the same locals, the same
+/// mode and kept locals.
+pub fn entry_law()
+    ensures { EntriesLookAlike }
+{}

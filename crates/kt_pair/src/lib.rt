@@ -3,4 +3,4 @@
 
 mod compiled;
 
-pub use compiled::{Compiled, compiled_law};
+pub use compiled::{Compiled, compiled_law, entry_law};
