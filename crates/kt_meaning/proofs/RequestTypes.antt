@@ -139,10 +139,10 @@ module _ (s : Version) (scalars : HasScalars s.program.types) (x : Context) (f :
         let parts' = and_parts (is_integer scope a && points_to scope t e) (is_complete scope e) (parts.0) in
         let parts'' = and_parts (is_integer scope a) (points_to scope t e) (parts'.0) in
         let number = number-at scope a n (parts''.0) r in
-        subst (λ v. Kept (request.Allocate e zeros) (Some t) (v ∷ [])) (sym number.is) (at_number number.value (pointer-of (slice_get types.types t) e (parts''.1))))
+        subst (λ v. Kept (request.Allocate e zeros) (Some t) (v ∷ [])) (sym number.is) (at_number number.value (pointer-of (slice_get types.types t) e (parts''.1)) (parts'.1)))
       where
-        at_number : (n : ℤ) → IsPointer (slice_get types.types t) → Kept (request.Allocate e zeros) (Some t) (Num n ∷ [])
-        at_number n p = asked-Keeps (Of t) (act.Allocate e n zeros) (request.Allocate e zeros) (Num n ∷ []) tt tt given k
+        at_number : (n : ℤ) → IsPointer (slice_get types.types t) → is_complete scope e ≡ true → Kept (request.Allocate e zeros) (Some t) (Num n ∷ [])
+        at_number n p complete = asked-Keeps (Of t) (act.Allocate e n zeros) (request.Allocate e zeros) (Num n ∷ []) complete tt given k
           where
             given : (reply : Reply) → Tells (Some (ty.Ptr e)) reply → IsAt types t (told reply)
             given Done h = absurd h

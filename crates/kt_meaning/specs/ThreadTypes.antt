@@ -2,7 +2,9 @@
 -- local may be undefined.
 use Rattle.std.specs.Prelude.{◌≡◌, IsTrue, ℕ, ◌<◌, Bool, true, false, ◌||◌, List, [], ◌∷◌, map, slice_get, Option, Some}
 use mathlib.Core.List.{reverse_aux}
+use Rattle.std.specs.Option.{is_some}
 use Rattle.kt_types.specs.declared.kinds.FieldDecl.{FieldDecl}
+use Rattle.kt_types.specs.Layout.{layout}
 use Rattle.kt_mem.specs.declared.memory.Value.{Value}
 use Rattle.kt_mem.specs.declared.steps.Act.{Act}
 use Rattle.kt_mem.specs.declared.steps.Act.TheVariants as act
@@ -171,8 +173,9 @@ pub record IsEntry (p : Program) (g : ℕ) (v : Value) : Type 0 where
   pub entry : is_entry (Some (head_of function)) parameter ≡ true
   pub value : IsAt p.types parameter v
 
--- what an act stores or hands to a new thread is of its type
+-- what an act stores or hands to a new thread is of its type, and what it allocates is complete
 abbrev pub IsTypedAct : Program → Act → Type 0
+IsTypedAct p (act.Allocate e n zeros) = is_some (layout p.types e) ≡ true
 IsTypedAct p (act.Store q t v) = IsTrue (is_of t v)
 IsTypedAct p (act.Create g v) = IsEntry p g v
 IsTypedAct p _ = Unit {0}

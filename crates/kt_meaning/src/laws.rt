@@ -13,7 +13,8 @@ use kt_mem::Reply;
 use kt_tree::{Version, version_law};
 
 /// From every thread of a version, whatever the version's number is, settling ends after finitely many quiet steps in
-/// exactly one act, trap or end; and each value that the act stores or hands to a new thread is of its type.
+/// exactly one act, trap or end; each value that the act stores or hands to a new thread is of its type, and the element
+/// type of what it allocates is complete.
 pub fn settle_law(version: &Version, thread: &TreeThread)
     requires thread { IsThread version.now (thread_of thread.now) }
     ensures settles { (n : ℕ) → Settles (step (numbered version.now n)) (thread_of thread.now) (settle (numbered version.now n) (thread_of thread.now)) }

@@ -4,7 +4,7 @@ use Rattle.std.proofs.Common.{inl, inr, sym, subst, ap, ◌∙◌, arith}
 use Rattle.kt_edge.specs.Count.{Rose}
 use Rattle.kt_edge.specs.FileMap.{FileMap, Holds, Tells, Lacks}
 use Rattle.kt_edge.specs.Writes.{Writes, TakesOrFails}
-use Rattle.kt_world.specs.declared.mark.End.{End}
+use Rattle.kt_small_world.specs.declared.mark.End.{End}
 use Rattle.kt_play.specs.declared.refusal.Refusal.{Refusal}
 use Rattle.kt_play.specs.declared.refusal.Refusal.TheVariants as refusal
 use Rattle.kt_play.specs.declared.status.Cause.{Cause}
@@ -13,7 +13,7 @@ use Rattle.kt_play.specs.declared.status.Which.TheVariants.{File}
 use Rattle.kt_play.specs.declared.status.Status.{Status}
 use Rattle.kt_play.specs.declared.status.Status.TheVariants.{Main, Trap, Budget, Words, ReadFault, TooLong, Refused, WriteFault, NoMemory}
 use Rattle.kt_play.specs.Answer.{Call, IsAnswer, IsTurnedAway, HasPlayed, HasFailed, IsUnread, IsTooLong, IsRefusedFile, EndsOrLacksMemory}
-use Rattle.kt_world.specs.Job.{Job}
+use Rattle.kt_small_world.specs.Job.{Job}
 use Rattle.kt_play.specs.Job.{HoldAll, TellAll, IsShort, AreShort, IsJobOf, IsJobText, IsOutside, IsFirstOutside, IsOutsideOfThree, IsFirstLong}
 use Rattle.kt_play.specs.Order.{order_of}
 use Rattle.kt_syntax.specs.File.{OneTree}

@@ -2,8 +2,8 @@
 use Rattle.std.specs.Prelude.{◌≡◌, ℕ, suc, ◌<◌, ◌≤◌, List, [], ◌∷◌, Option, Result, Ok, Err, IfOk, IfErr, length, slice_get, Some, refl}
 use Rattle.std.proofs.Common.{arith, sym, subst, ◌∙◌, ap, inl, inr}
 use Rattle.std.proofs.lemmas.List.{length-take, take_all}
-use Rattle.kt_world.specs.declared.job.Job.{Job}
-use Rattle.kt_world.specs.Plain.{job_of}
+use Rattle.kt_small_world.specs.declared.job.Job.{Job}
+use Rattle.kt_small_world.specs.Plain.{job_of}
 use Rattle.kt_edge.specs.Count.{Rose}
 use Rattle.kt_edge.specs.FileMap.{FileMap, Holds, Lacks, StartsFile}
 use Rattle.kt_play.specs.declared.refusal.Refusal.{Refusal}

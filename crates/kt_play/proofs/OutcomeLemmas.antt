@@ -2,11 +2,11 @@
 use Rattle.std.specs.Prelude.{◌≡◌, ℕ, List, replicate}
 use Rattle.std.proofs.Common.{ap, subst}
 use Rattle.kt_edge.specs.Writes.{Writes}
-use Rattle.kt_world.specs.declared.mark.End.{End}
+use Rattle.kt_small_world.specs.declared.mark.End.{End}
 use Rattle.kt_play.specs.declared.status.Status.{Status}
 use Rattle.kt_play.specs.declared.status.Status.TheVariants.{Main, Trap, Budget, Words, ReadFault, TooLong, Refused, WriteFault, NoMemory}
-use Rattle.kt_world.specs.declared.mark.Mark.{Mark}
-use Rattle.kt_world.specs.Job.{Job}
+use Rattle.kt_small_world.specs.declared.mark.Mark.{Mark}
+use Rattle.kt_small_world.specs.Job.{Job}
 use Rattle.kt_play.specs.Journal.{journal_of}
 use Rattle.kt_play.specs.Outcome.{IsWritten}
 use Rattle.kt_play.specs.Report.{HasRun}

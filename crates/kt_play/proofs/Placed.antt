@@ -1,7 +1,7 @@
 -- Kept values, placed one after another.
 use Rattle.std.specs.Prelude.{◌≡◌, ℕ, zero, suc, ◌+◌, ◌<◌, ℤ, List, [], ◌∷◌, length, take, slice_index_or, Option, Some, None, unwrap_or, refl}
 use Rattle.std.proofs.Common.{arith, ap, sym, ◌∙◌}
-use Rattle.kt_world.specs.Update.{placed}
+use Rattle.kt_small_world.specs.Update.{placed}
 use Rattle.kt_play.specs.Effects.{placed_one}
 
 one-none : (k : Option ℤ) (n : ℕ) → placed_one k n [] ≡ []

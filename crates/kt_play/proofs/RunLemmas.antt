@@ -7,17 +7,17 @@ use Rattle.kt_small.specs.Thread as tree
 use Rattle.kt_small.specs.Tree.{Version}
 use Rattle.kt_codegen.specs.declared.instr.Instr.{Instr}
 use Rattle.kt_codegen.specs.Machine.{State, machine_settle, start}
-use Rattle.kt_world.specs.declared.mark.End.{End}
-use Rattle.kt_world.specs.declared.mark.Mark.{Mark}
-use Rattle.kt_world.specs.declared.mark.Phase.{Phase}
-use Rattle.kt_world.specs.declared.mark.Phase.TheVariants.{Run, Asked, Main, Others}
-use Rattle.kt_world.specs.Job.{Job, version_at}
-use Rattle.kt_world.specs.World.{Shared, Thread, World}
-use Rattle.kt_world.specs.Turn.{is_parked, is_live, is_turnable, is_enabled, turn, entry_of, tree_engine, first_world, world_from, world, MayTurn, MayTurnAll}
-use Rattle.kt_world.specs.Same.{IsSameWorld, AreSameEngines, AreSameThreads, IsSameWorld-trans, turn-same, first_world-same}
-use Rattle.kt_world.specs.Kept.{world_from-keeps}
-use Rattle.kt_world.specs.WellFormed.{IsWellFormed}
-use Rattle.kt_world.specs.WellFormedLaws.{first_world-well_formed, IsWellFormed-kept}
+use Rattle.kt_small_world.specs.declared.mark.End.{End}
+use Rattle.kt_small_world.specs.declared.mark.Mark.{Mark}
+use Rattle.kt_small_world.specs.declared.mark.Phase.{Phase}
+use Rattle.kt_small_world.specs.declared.mark.Phase.TheVariants.{Run, Asked, Main, Others}
+use Rattle.kt_small_world.specs.Job.{Job, version_at}
+use Rattle.kt_small_world.specs.World.{Shared, Thread, World}
+use Rattle.kt_small_world.specs.Turn.{is_parked, is_live, is_turnable, is_enabled, turn, entry_of, tree_engine, first_world, world_from, world, MayTurn, MayTurnAll}
+use Rattle.kt_small_world.specs.Same.{IsSameWorld, AreSameEngines, AreSameThreads, IsSameWorld-trans, turn-same, first_world-same}
+use Rattle.kt_small_world.specs.Kept.{world_from-keeps}
+use Rattle.kt_small_world.specs.WellFormed.{IsWellFormed}
+use Rattle.kt_small_world.specs.WellFormedLaws.{first_world-well_formed, IsWellFormed-kept}
 use Rattle.kt_play.specs.declared.machine.Machine.{Machine}
 use Rattle.kt_play.specs.Acts.{DoTheSameActs}
 use Rattle.kt_play.specs.Engine.{code_at, machine_engine, standing_of, thread_of, world_of, IsInState}

@@ -8,10 +8,10 @@ use Rattle.kt_codegen.specs.declared.run.Head.{Head}
 use Rattle.kt_codegen.specs.Heads.{head_of}
 use Rattle.kt_codegen.specs.Machine.{State, machine_step, machine_settle}
 use Rattle.kt_codegen.specs.MachineSettling.{machine_settle-acts, machine_settle-traps, machine_settle-ends, machine_settle-settles}
-use Rattle.kt_world.specs.World.{Shared, Standing, World}
-use Rattle.kt_world.specs.Same.{AreSameEngines, DoesSameActs-refl, turn-same}
-use Rattle.kt_world.specs.Turn.{act, counted, after_act, turn}
-use Rattle.kt_world.specs.Job.{Job}
+use Rattle.kt_small_world.specs.World.{Shared, Standing, World}
+use Rattle.kt_small_world.specs.Same.{AreSameEngines, DoesSameActs-refl, turn-same}
+use Rattle.kt_small_world.specs.Turn.{act, counted, after_act, turn}
+use Rattle.kt_small_world.specs.Job.{Job}
 use Rattle.kt_play.specs.Engine.{code_at, machine_engine, IsInState, StandsAt}
 
 settle_at : (code : List Instr) (y : State) (s : Step State) → IsHead s → machine_step code y ≡ s → machine_settle code y ≡ s

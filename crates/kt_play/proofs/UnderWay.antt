@@ -9,13 +9,13 @@ use Rattle.kt_small.specs.declared.acts.Reply.{Reply}
 use Rattle.kt_small.specs.declared.acts.Reply.TheVariants.{Done}
 use Rattle.kt_small.specs.Steps.{Step, Quiet, Acts, Traps, Ends}
 use Rattle.kt_small.specs.Tree.{Version}
-use Rattle.kt_world.specs.declared.mark.End.{End}
-use Rattle.kt_world.specs.declared.mark.Phase.{Phase}
-use Rattle.kt_world.specs.declared.mark.Phase.TheVariants.{Run, Asked, Main, Others}
-use Rattle.kt_world.specs.Job.{Job, version_at}
-use Rattle.kt_world.specs.World.{Engine, Live, Parked, Shared, Thread, World}
-use Rattle.kt_world.specs.Update.{lost_point, let_go, restarted, decided, closed_between}
-use Rattle.kt_world.specs.Turn.{at_point, migrated, act_effect, effect, act, counted, ongoing, with_mark, end_marked, main_is_normal, is_parked, all_normal, all_parked, main_there, all_back, closed_up, request, asked, spent, on_shared, before_turn, after_act, turn, first_globals, first_world}
+use Rattle.kt_small_world.specs.declared.mark.End.{End}
+use Rattle.kt_small_world.specs.declared.mark.Phase.{Phase}
+use Rattle.kt_small_world.specs.declared.mark.Phase.TheVariants.{Run, Asked, Main, Others}
+use Rattle.kt_small_world.specs.Job.{Job, version_at}
+use Rattle.kt_small_world.specs.World.{Engine, Live, Parked, Shared, Thread, World}
+use Rattle.kt_small_world.specs.Update.{lost_point, let_go, restarted, decided, closed_between}
+use Rattle.kt_small_world.specs.Turn.{at_point, migrated, act_effect, effect, act, counted, ongoing, with_mark, end_marked, main_is_normal, is_parked, all_normal, all_parked, main_there, all_back, closed_up, request, asked, spent, on_shared, before_turn, after_act, turn, first_globals, first_world}
 
 -- an update is asked for only where a next version exists
 abbrev pub HasNext : Job → Shared → Type 0

@@ -2,14 +2,14 @@
 use Rattle.std.specs.Prelude.{◌≡◌, ℕ, ◌⊎◌, List, Option, None, String}
 use Rattle.kt_edge.specs.FileMap.{FileMap}
 use Rattle.kt_edge.specs.Writes.{Writes, Takes}
-use Rattle.kt_world.specs.declared.mark.End.{End}
+use Rattle.kt_small_world.specs.declared.mark.End.{End}
 use Rattle.kt_play.specs.declared.status.Cause.{Cause}
 use Rattle.kt_play.specs.declared.status.Which.{Which}
 use Rattle.kt_play.specs.declared.status.Which.TheVariants.{File}
 use Rattle.kt_play.specs.declared.status.Status.{Status}
 use Rattle.kt_play.specs.declared.status.Status.TheVariants.{NoMemory}
-use Rattle.kt_world.specs.Job.{Job}
-use Rattle.kt_world.specs.Turn.{IsComplete}
+use Rattle.kt_small_world.specs.Job.{Job}
+use Rattle.kt_small_world.specs.Turn.{IsComplete}
 use Rattle.std.specs.declared.alloc.Global.{Global}
 use Rattle.kt_play.specs.Order.{order_of, texts}
 use Rattle.kt_play.specs.declared.refusal.Refusal.{Refusal}

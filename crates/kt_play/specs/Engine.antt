@@ -7,12 +7,12 @@ use Rattle.kt_codegen.specs.declared.run.Head.{Head}
 use Rattle.kt_codegen.specs.declared.run.Head.TheVariants.{Act, Trap, End}
 use Rattle.kt_codegen.specs.Heads.{head_of}
 use Rattle.kt_codegen.specs.Machine.{State, start, machine_step, machine_settle}
-use Rattle.kt_world.specs.declared.mark.Closed.TheVariants.{Ok, Point}
-use Rattle.kt_world.specs.declared.mark.Mark.TheVariants.{Close}
-use Rattle.kt_world.specs.declared.mark.Phase.TheVariants.{Run, Main}
-use Rattle.kt_world.specs.Update.{first_memory, kept_values, marked, passed, point_of_act}
-use Rattle.kt_world.specs.World.{Engine, Standing, Live, Parked, Thread, World}
-use Rattle.kt_world.specs.Same.{IsSameWorld}
+use Rattle.kt_small_world.specs.declared.mark.Closed.TheVariants.{Ok, Point}
+use Rattle.kt_small_world.specs.declared.mark.Mark.TheVariants.{Close}
+use Rattle.kt_small_world.specs.declared.mark.Phase.TheVariants.{Run, Main}
+use Rattle.kt_small_world.specs.Update.{first_memory, kept_values, marked, passed, point_of_act}
+use Rattle.kt_small_world.specs.World.{Engine, Standing, Live, Parked, Thread, World}
+use Rattle.kt_small_world.specs.Same.{IsSameWorld}
 use Rattle.kt_play.specs.declared.machine.Machine.{Machine}
 
 -- the code of the version of that number

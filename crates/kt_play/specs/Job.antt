@@ -3,7 +3,7 @@ use Rattle.std.specs.Prelude.{◌≡◌, ℕ, zero, suc, List, [], ◌∷◌, le
 use Rattle.std.specs.List.{list_all}
 use Rattle.kt_edge.specs.FileMap.{FileMap, Holds, Tells}
 use Rattle.kt_small.specs.Tree.{Version}
-use Rattle.kt_world.specs.Job.{Job}
+use Rattle.kt_small_world.specs.Job.{Job}
 use Rattle.kt_lex.specs.Bytes.{is_blank}
 use Rattle.kt_play.specs.declared.status.Cause.{Cause}
 use Rattle.kt_play.specs.declared.status.Cause.TheVariants.{Later}

@@ -2,8 +2,8 @@
 use Rattle.std.specs.Prelude.{◌≡◌, ◌≢◌, ℕ, ◌⊎◌, List, IfSome}
 use Rattle.kt_play.specs.Status.{refusal_line}
 use Rattle.kt_edge.specs.Writes.{Writes, Takes, FailsIn, TakesOrFails}
-use Rattle.kt_world.specs.declared.mark.End.{End}
-use Rattle.kt_world.specs.declared.mark.End.TheVariants as end
+use Rattle.kt_small_world.specs.declared.mark.End.{End}
+use Rattle.kt_small_world.specs.declared.mark.End.TheVariants as end
 use Rattle.kt_play.specs.declared.refusal.Refusal.{Refusal}
 use Rattle.kt_play.specs.declared.refusal.Refusal.TheVariants as refusal
 use Rattle.kt_play.specs.declared.status.Status.{Status}

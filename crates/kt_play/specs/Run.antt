@@ -3,10 +3,10 @@ use Rattle.std.specs.Prelude.{◌≡◌, ℕ, suc, ◌⊎◌, List, Option, Some
 use Rattle.kt_edge.specs.Count.{Rose}
 use Rattle.kt_edge.specs.FileMap.{FileMap, Lacks}
 use Rattle.kt_edge.specs.Writes.{Writes, Takes}
-use Rattle.kt_world.specs.declared.mark.End.{End}
-use Rattle.kt_world.specs.declared.mark.End.TheVariants as end
-use Rattle.kt_world.specs.Job.{Job}
-use Rattle.kt_world.specs.Turn.{world, IsComplete}
+use Rattle.kt_small_world.specs.declared.mark.End.{End}
+use Rattle.kt_small_world.specs.declared.mark.End.TheVariants as end
+use Rattle.kt_small_world.specs.Job.{Job}
+use Rattle.kt_small_world.specs.Turn.{world, IsComplete}
 use Rattle.kt_play.specs.declared.refusal.Refusal.{Refusal}
 use Rattle.kt_play.specs.declared.refusal.Refusal.TheVariants as refusal
 use Rattle.kt_play.specs.declared.status.Cause.{Cause}

@@ -1,6 +1,6 @@
 -- What the machine asks of a job: one version or two, few requests, and some turns.
 use Rattle.std.specs.Prelude.{◌<◌, ◌≤◌, length}
-use Rattle.kt_world.specs.declared.job.Job.{Job}
+use Rattle.kt_small_world.specs.declared.job.Job.{Job}
 
 pub record IsRunnable (job : Job) : Type 0 where
   pub some : 0 < length job.versions

@@ -2,7 +2,7 @@
 
 ghost use Rattle.std.specs.Prelude.{◌≡◌, ◌<◌, ◌^◌, bytes_eq, length, slice_get, slice_set, IfOk, IfSome};
 ghost use Rattle.kt_small.specs.Tree.{version_of};
-ghost use Rattle.kt_world.specs.Update as plain;
+ghost use Rattle.kt_small_world.specs.Update as plain;
 ghost use Rattle.kt_play.specs.Effects.{placed_one};
 
 use kt_small::tree::{Global as GlobalDecl, Program};

@@ -6,7 +6,7 @@ ghost use Rattle.kt_play.specs.Journal as spec;
 
 use itoa::Buffer;
 use kt_small::acts::Trap;
-use kt_world::mark::{Closed, End, Mark};
+use kt_small_world::mark::{Closed, End, Mark};
 use std::alloc::{AllocError, Global};
 
 /// The journal of so many turns of thread 0 and of these marks.

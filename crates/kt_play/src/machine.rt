@@ -2,10 +2,10 @@
 
 ghost use Rattle.std.specs.Prelude.{◌≡◌, ◌<◌, IfOk, MatchOption, None, Some, length, option_and_then};
 ghost use Rattle.kt_small.specs.Tree.{version_of};
-ghost use Rattle.kt_world.specs.Job as plain_job;
-ghost use Rattle.kt_world.specs.Plain.{job_of};
-ghost use Rattle.kt_world.specs.Turn as plain_turn;
-ghost use Rattle.kt_world.specs.Update as plain;
+ghost use Rattle.kt_small_world.specs.Job as plain_job;
+ghost use Rattle.kt_small_world.specs.Plain.{job_of};
+ghost use Rattle.kt_small_world.specs.Turn as plain_turn;
+ghost use Rattle.kt_small_world.specs.Update as plain;
 ghost use Rattle.kt_play.specs.Engine.{code_at, point_of_head};
 
 use crate::effects::{first_values, kept_values, new_point};
@@ -14,8 +14,8 @@ use kt_codegen::code::Code;
 use kt_codegen::run::{Head, Thread};
 use kt_small::acts::{Act, Mode, Reply};
 use kt_small::tree::Program;
-use kt_world::job::Job;
-use kt_world::mark::{End, Mark, Phase};
+use kt_small_world::job::Job;
+use kt_small_world::mark::{End, Mark, Phase};
 use std::alloc::{AllocError, Global};
 
 /// What is shared, and thread 0: its state, its mode, and whether it is parked.
@@ -40,9 +40,9 @@ impl Machine {
     ghost use Rattle.kt_codegen.specs.declared.instr.Instr.{Instr};
     ghost use Rattle.kt_codegen.specs.Heads.{head_of};
     ghost use Rattle.kt_codegen.specs.Machine.{machine_step};
-    ghost use Rattle.kt_world.specs.Plain.{job_of};
-    ghost use Rattle.kt_world.specs.Update as plain;
-    ghost use Rattle.kt_world.specs.Turn as plain_turn;
+    ghost use Rattle.kt_small_world.specs.Plain.{job_of};
+    ghost use Rattle.kt_small_world.specs.Update as plain;
+    ghost use Rattle.kt_small_world.specs.Turn as plain_turn;
     ghost use Rattle.kt_play.specs.Engine.{code_at, machine_engine, thread_of, world_of, updated_to, refused_at, IsInState, KeepsThread, StandsAt};
 
     /// Before the first turn of a job: `main` stands at its entry.

@@ -4,8 +4,8 @@ ghost use Rattle.std.specs.Prelude.{◌≡◌, ◌<◌, ◌⊎◌, ◌↔◌, �
 ghost use Rattle.kt_edge.specs.Count.{Rose};
 ghost use Rattle.kt_edge.specs.FileMap.{Lacks};
 ghost use Rattle.kt_edge.specs.Writes.{writes_of, TakesOrFails};
-ghost use Rattle.kt_world.specs.Job as plain;
-ghost use Rattle.kt_world.specs.Plain.{job_of};
+ghost use Rattle.kt_small_world.specs.Job as plain;
+ghost use Rattle.kt_small_world.specs.Plain.{job_of};
 ghost use Rattle.kt_play.specs.Answer.{call_of, HasFailed, HasPlayed, IsAnswer, IsRefusedFile, IsTooLong, IsUnread, EndsOrLacksMemory};
 ghost use Rattle.kt_play.specs.Job.{IsFirstOutside, IsFirstLong, IsJobText, TellAll};
 ghost use Rattle.kt_play.specs.Journal.{journal_of};
@@ -24,7 +24,7 @@ use crate::status::{Cause, Status, Which};
 use crate::turns::Report;
 use kt_edge::{Files, Sink, Source};
 use kt_syntax::file_laws;
-use kt_world::job::Job;
+use kt_small_world::job::Job;
 use std::alloc::Global;
 
 // Runs an accepted job, and writes its output and its journal.

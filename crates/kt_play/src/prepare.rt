@@ -2,7 +2,7 @@
 
 ghost use Rattle.std.specs.Prelude.{◌≡◌, ◌<◌, ◌≤◌, ℕ, List, [], ◌∷◌, length, IfOk, IfErr, OnOk, Err};
 ghost use Rattle.kt_small.specs.Tree.{version_of};
-ghost use Rattle.kt_world.specs.Plain.{job_of};
+ghost use Rattle.kt_small_world.specs.Plain.{job_of};
 ghost use Rattle.kt_lex.specs.Bytes.{is_blank};
 ghost use Rattle.kt_play.specs.Job.{IsBlankText, IsJobOf};
 ghost use Rattle.kt_play.specs.Names.{names_in};
@@ -21,7 +21,7 @@ use crate::text::version;
 use kt_edge::{FileEnd, Files};
 use kt_small::tree::Program;
 use kt_tree::Version;
-use kt_world::job::Job;
+use kt_small_world::job::Job;
 use sqlite_items::Items;
 use std::alloc::Global;
 

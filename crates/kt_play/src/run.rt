@@ -1,13 +1,13 @@
 //! Compiles a job's versions, and runs it.
 
 ghost use Rattle.std.specs.Prelude.{IfOk};
-ghost use Rattle.kt_world.specs.Plain.{job_of};
+ghost use Rattle.kt_small_world.specs.Plain.{job_of};
 ghost use Rattle.kt_play.specs.Report.{HasRun};
 ghost use Rattle.kt_play.specs.Runnable.{IsRunnable};
 
 use crate::codes::compile_all;
 use crate::turns::{Report, take_turns};
-use kt_world::job::Job;
+use kt_small_world::job::Job;
 use std::alloc::{AllocError, Global};
 
 /// Runs a job to its end.

@@ -1,12 +1,12 @@
 //! What threads share: the version in force, its globals, the phase of the update, the output and the journal's marks.
 
 ghost use Rattle.std.specs.Prelude.{◌≡◌, is_some};
-ghost use Rattle.kt_world.specs.Job.{version_at};
-ghost use Rattle.kt_world.specs.Plain.{job_of};
+ghost use Rattle.kt_small_world.specs.Job.{version_at};
+ghost use Rattle.kt_small_world.specs.Plain.{job_of};
 
 use crate::effects::{place, store, value_at};
-use kt_world::job::Job;
-use kt_world::mark::{Closed, End, Mark, Phase};
+use kt_small_world::job::Job;
+use kt_small_world::mark::{Closed, End, Mark, Phase};
 use std::alloc::{AllocError, Global};
 use std::marker::Model;
 
@@ -27,7 +27,7 @@ pub struct Shared {
 
 impl Model for Shared {
     ghost use Rattle.std.specs.Prelude.{◌+◌, ◌<◌, vec_len};
-    ghost use Rattle.kt_world.specs.World as spec;
+    ghost use Rattle.kt_small_world.specs.World as spec;
 
     ghost Value = { spec.Shared };
 
@@ -49,9 +49,9 @@ impl Model for Shared {
 
 impl Shared {
     ghost use Rattle.std.specs.Prelude.{◌≡◌, ◌+◌, ◌<◌, ◌^◌, [], ◌∷◌, ◌++◌, None, OnOk, Some, drop, length, slice_set, vec_len};
-    ghost use Rattle.kt_world.specs.Plain.{job_of};
-    ghost use Rattle.kt_world.specs.Turn.{asked, request, spent, with_mark};
-    ghost use Rattle.kt_world.specs.Update.{marked, placed, value_at};
+    ghost use Rattle.kt_small_world.specs.Plain.{job_of};
+    ghost use Rattle.kt_small_world.specs.Turn.{asked, request, spent, with_mark};
+    ghost use Rattle.kt_small_world.specs.Update.{marked, placed, value_at};
 
     /// Before the first turn of a run: these values of the globals, and requests after these numbers of turns.
     pub fn new(alloc: Global, memory: Vec<i32>, after: Vec<u32>) -> Shared

@@ -4,7 +4,7 @@ ghost use Rattle.std.specs.Prelude.{◌≡◌};
 ghost use Rattle.kt_play.specs.Status.{cause_name, cause_place, exit_of};
 
 use kt_small::acts::Trap;
-use kt_world::mark::End;
+use kt_small_world::mark::End;
 
 /// What was to be read.
 #[derive(Clone, Copy, PartialEq, Eq, Debug)]

@@ -1,14 +1,14 @@
 //! Takes the turns of a job, from its first to its end.
 
 ghost use Rattle.std.specs.Prelude.{◌≡◌, ◌<◌, ◌≤◌, length, IfOk};
-ghost use Rattle.kt_world.specs.Plain.{job_of};
+ghost use Rattle.kt_small_world.specs.Plain.{job_of};
 ghost use Rattle.kt_play.specs.Acts.{DoTheSameActs};
 ghost use Rattle.kt_play.specs.Report.{HasRun};
 
 use crate::machine::Machine;
 use kt_codegen::code::Code;
-use kt_world::job::Job;
-use kt_world::mark::{End, Mark};
+use kt_small_world::job::Job;
+use kt_small_world::mark::{End, Mark};
 use std::alloc::{AllocError, Global};
 
 /// What a run did: all of its turns are of thread 0.

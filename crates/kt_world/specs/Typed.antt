@@ -1,100 +1,66 @@
--- A version whose numbers are in range, and threads of it: each number is an `int`, each character a byte, each global
--- and each point one of the version. What is checked of a program, and what its thread keeps.
-use Rattle.std.specs.Prelude.{◌≡◌, ℕ, ◌<◌, ℤ, [], ◌∷◌, Option, Some, None, length, true}
-use Rattle.std.specs.List.{All}
-use Rattle.kt_small.specs.declared.acts.Act.{Act}
-use Rattle.kt_small.specs.declared.acts.Act.TheVariants.{Tick, Load, Store, Print, Point, Automigrate}
-use Rattle.kt_small.specs.declared.acts.Reply.{Reply}
-use Rattle.kt_small.specs.declared.acts.Reply.TheVariants.{Done, Got}
-use Rattle.kt_small.specs.declared.tree.Operand.{Operand}
-use Rattle.kt_small.specs.declared.tree.Operand.TheVariants.{Number, Character, Global}
-use Rattle.kt_small.specs.declared.tree.Expr.{Expr}
-use Rattle.kt_small.specs.declared.tree.Expr.TheVariants.{Single, Binary}
-use Rattle.kt_small.specs.Operators.{fits_int}
-use Rattle.kt_small.specs.Tree.{Statement, Assigning, Putting, Returning, Choosing, Looping, Reaching, Migrating, Block, Empty, Then, Version}
-use Rattle.kt_small.specs.Thread.{Part, Run, Do, Eval, Have, Right, Left, Assigns, Puts, Returns, Chooses, Loops, Work}
-use Rattle.kt_world.specs.Job.{Job, version_at}
-use Rattle.kt_world.specs.World.{Thread, World}
-use Rattle.kt_world.specs.Update.{first_memory}
-use Rattle.kt_world.specs.WellFormed.{globals_of, points_of}
+-- What holds of each world of a job.
+use Rattle.std.specs.Prelude.{◌≡◌, ◌≢◌, ◌↔◌, ℕ, ◌<◌, ◌≤◌, IsTrue, List, [], ◌∷◌, length, map, Option, Some, None, slice_get}
+use Rattle.std.specs.List.{All, AllByRecursion}
+use Rattle.kt_types.specs.declared.kinds.Ty.TheVariants as ty
+use Rattle.kt_mem.specs.declared.memory.Name.TheVariants.{Glob}
+use Rattle.kt_mem.specs.declared.memory.Value.{Value}
+use Rattle.kt_mem.specs.Memory.{Object, Memory}
+use Rattle.kt_tree.specs.declared.global.GlobalDecl.{GlobalDecl}
+use Rattle.kt_tree.specs.Version.{Program, IsProgram}
+use Rattle.kt_meaning.specs.Laws.{IsShared}
+use Rattle.kt_meaning.specs.Thread as tree
+use Rattle.kt_meaning.specs.ThreadTypes.{IsThread}
+use Rattle.kt_meaning.specs.Values.{is_of}
+use Rattle.kt_world.specs.Job.{Job, version_at, types_of}
+use Rattle.kt_world.specs.Update.{global_object}
+use Rattle.kt_world.specs.World.{Thread, World, outside_of}
 
-abbrev pub IsInt : ℤ → Type 0
-IsInt v = fits_int v ≡ true
+-- ---- each world
 
-abbrev pub IsIntIfSome : Option ℤ → Type 0
-IsIntIfSome None = Unit {0}
-IsIntIfSome (Some v) = IsInt v
+abbrev pub globals_of : Option Program → List GlobalDecl
+globals_of None = []
+globals_of (Some p) = p.globals
 
--- ---- a program with n globals and m points
+-- the object has the type, the count and the types of cells of this one
+pub record IsShapedAs (o model : Object) : Type 0 where
+  pub ty : o.ty ≡ model.ty
+  pub count : o.count ≡ model.count
+  pub cells : map (λ c. c.ty) o.cells ≡ map (λ c. c.ty) model.cells
 
-abbrev pub IsTypedOperand : ℕ → Operand → Type 0
-IsTypedOperand n (Number z) = IsInt z
-IsTypedOperand n (Character c) = c < 256
-IsTypedOperand n (Global g) = g < n
+-- each of these globals has its object
+abbrev pub HasGlobals : Option Program → Memory → Type 0
+HasGlobals p m = (i : ℕ) (g : GlobalDecl) → slice_get (globals_of p) i ≡ Some g →
+    (o : Object) × (m.at (Glob i) ≡ Some o) × IsShapedAs o (global_object 0 (types_of p) g)
 
-abbrev pub IsTypedExpr : ℕ → Expr → Type 0
-IsTypedExpr n (Single o) = IsTypedOperand n o
-IsTypedExpr n (Binary op a b) = IsTypedOperand n a × IsTypedOperand n b
+pub record IsWellFormed {X : Type 0} (job : Job) (w : World X) : Type 0 where
+  -- the version in force is one of the job's, where the job has any
+  pub version : 0 < length job.versions → w.shared.version < length job.versions
+  -- memory has the object of each of its globals
+  pub memory : HasGlobals (version_at job w.shared.version) w.shared.memory
+  -- each kept value is for one of its globals
+  pub kept : length w.shared.kept ≤ length (globals_of (version_at job w.shared.version))
+  -- there is exactly one thread
+  pub alone : length w.threads ≡ 1
 
-abbrev mutual
-  pub IsTypedStatement : ℕ → ℕ → Statement → Type 0
-  IsTypedStatement n m (Assigning g e) = (g < n) × IsTypedExpr n e
-  IsTypedStatement n m (Putting e) = IsTypedExpr n e
-  IsTypedStatement n m (Returning e) = IsTypedExpr n e
-  IsTypedStatement n m (Choosing e b) = IsTypedExpr n e × IsTypedBlock n m b
-  IsTypedStatement n m (Looping e b) = IsTypedExpr n e × IsTypedBlock n m b
-  IsTypedStatement n m (Reaching p) = p < m
-  IsTypedStatement n m Migrating = Unit {0}
-
-  pub IsTypedBlock : ℕ → ℕ → Block → Type 0
-  IsTypedBlock n m Empty = Unit {0}
-  IsTypedBlock n m (Then s b) = IsTypedStatement n m s × IsTypedBlock n m b
-
--- ---- a thread of it
-
-abbrev pub IsTypedPart : ℕ → ℕ → Part → Type 0
-IsTypedPart n m (Run b) = IsTypedBlock n m b
-IsTypedPart n m (Do s) = IsTypedStatement n m s
-IsTypedPart n m (Eval e) = IsTypedExpr n e
-IsTypedPart n m (Have v) = IsInt v
-IsTypedPart n m (Right op b) = IsTypedOperand n b
-IsTypedPart n m (Left op u) = IsInt u
-IsTypedPart n m (Assigns g) = g < n
-IsTypedPart n m Puts = Unit {0}
-IsTypedPart n m Returns = Unit {0}
-IsTypedPart n m (Chooses b) = IsTypedBlock n m b
-IsTypedPart n m (Loops e b) = IsTypedExpr n e × IsTypedBlock n m b
-
-abbrev pub IsTypedWork : ℕ → ℕ → Work → Type 0
-IsTypedWork n m [] = Unit {0}
-IsTypedWork n m (p ∷ w) = IsTypedPart n m p × IsTypedWork n m w
-
--- ---- its acts
-
-abbrev pub IsTypedAct : ℕ → ℕ → Act → Type 0
-IsTypedAct n m Tick = Unit {0}
-IsTypedAct n m (Load g) = g < n
-IsTypedAct n m (Store g v) = (g < n) × IsInt v
-IsTypedAct n m (Print b) = b < 256
-IsTypedAct n m (Point p) = p < m
-IsTypedAct n m Automigrate = Unit {0}
-
-abbrev pub IsTypedReply : Reply → Type 0
-IsTypedReply Done = Unit {0}
-IsTypedReply (Got v) = IsInt v
-
--- ---- versions and jobs
-
-pub record IsTypedVersion (version : Version) : Type 0 where
-  pub initial : All IsInt (first_memory version.globals)
-  pub body : IsTypedBlock (length version.globals) (length version.points) version.body
+-- ---- each world of a job whose versions are programs
 
 pub record IsTypedJob (job : Job) : Type 0 where
-  pub versions : All IsTypedVersion job.versions
+  pub versions : All IsProgram job.versions
+  pub input : AllByRecursion (λ b. b < 256) job.input
 
--- memory and the kept values are numbers of `int`, and each thread is one of the version in force
-pub record IsTypedWorld (job : Job) (w : World Work) : Type 0 where
-  pub memory : All IsInt w.shared.memory
+-- a value of `int`, where one is kept
+abbrev pub IsIntIfSome : Option Value → Type 0
+IsIntIfSome None = Unit {0}
+IsIntIfSome (Some v) = IsTrue (is_of ty.Int v)
+
+-- a thread of the version
+abbrev pub IsThreadOf : Option Program → tree.Thread → Type 0
+IsThreadOf None x = Unit {0}
+IsThreadOf (Some p) x = IsThread p x
+
+pub record IsTypedWorld (job : Job) (w : World tree.Thread) : Type 0 where
+  -- each cell of memory is of its type, each byte of the input is one, and not too much was written
+  pub shared : IsShared (outside_of w.shared)
   pub kept : All IsIntIfSome w.shared.kept
-  pub threads : All (λ (th : Thread Work). IsTypedWork (length (globals_of (version_at job w.shared.version)))
-      (length (points_of (version_at job w.shared.version))) th.state) w.threads
+  -- each thread is one of the version in force
+  pub threads : All (λ (th : Thread tree.Thread). IsThreadOf (version_at job w.shared.version) th.state) w.threads

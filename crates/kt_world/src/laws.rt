@@ -4,8 +4,7 @@ ghost use Rattle.std.specs.Prelude.{◌≡◌, ◌↔◌, ◌++◌, ◌∷◌, [
 ghost use Rattle.kt_world.specs.Laws.{AreTurnsOf};
 ghost use Rattle.kt_world.specs.Plain.{job_of};
 ghost use Rattle.kt_world.specs.Turn.{MayTurn, tree_engine, turn, world};
-ghost use Rattle.kt_world.specs.Typed.{IsTypedJob, IsTypedWorld};
-ghost use Rattle.kt_world.specs.WellFormed.{IsWellFormed};
+ghost use Rattle.kt_world.specs.Typed.{IsTypedJob, IsTypedWorld, IsWellFormed};
 
 use crate::job::Job;
 use crate::mark::Phase;
@@ -14,12 +13,12 @@ use crate::mark::Phase;
 /// it may take one in their world; the world of the longer list is then one turn of it from theirs. While `main` is on
 /// its way to its point after an update, no other thread may.
 ///
-/// In each world memory has one cell for each global of the version in force, and there is one thread. Where the job's
-/// versions have their numbers in range, each cell and each kept value is a number of `int`, and the thread is one of
-/// the version in force: it has only globals, points and numbers of it.
+/// In each world each global of the version in force has its object, and there is one thread. Where the job's versions
+/// are programs and its input is bytes, each cell and each kept value is of its type, and the thread is one of the
+/// version in force.
 pub fn world_law(job: &Job, turns: &[u8])
     ensures followed { let j = job_of job.now in (t : ℕ) →
-        AreTurnsOf j (turns.now ++ t ∷ []) ↔ (AreTurnsOf j turns.now × MayTurn (world j turns.now) t) }
+        AreTurnsOf j (turns.now ++ t ∷ []) ↔ (AreTurnsOf j turns.now × MayTurn (tree_engine j) (world j turns.now) t) }
     ensures next { let j = job_of job.now in (t : ℕ) → AreTurnsOf j (turns.now ++ t ∷ []) →
         world j (turns.now ++ t ∷ []) ≡ turn (tree_engine j) j (world j turns.now) t }
     ensures main_alone { let j = job_of job.now in (t : ℕ) → AreTurnsOf j (turns.now ++ t ∷ []) →

@@ -1,6 +1,6 @@
 //! What the journal says beside the turns, and the phases between.
 
-use kt_small::acts::Trap;
+use kt_mem::Trap;
 
 /// Where a run stands between an update's request and its end.
 #[derive(Clone, Copy, PartialEq, Eq, Debug)]
@@ -31,6 +31,8 @@ pub enum End {
     Main(i32),
     /// That thread's act trapped.
     Trap(u8, Trap),
+    /// Nobody may take a turn.
+    Stuck,
     /// As many turns were made as the budget allows.
     Budget,
 }

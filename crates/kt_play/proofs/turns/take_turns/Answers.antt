@@ -1,7 +1,7 @@
 use Rattle.std.proofs.Common.{Some, arith, sym, ap, ◌∙◌}
 use Rattle.std.proofs.lemmas.List.{length-map}
 use Rattle.kt_small.specs.Tree.{version_of}
-use Rattle.kt_world.specs.Plain.{job_of}
+use Rattle.kt_small_world.specs.Plain.{job_of}
 use Rattle.kt_play.proofs.RunLemmas.{at_first, goes_on, machine-version, nearer, ran, turned}
 use Rattle.kt_play.proofs.turns.take_turns.Goals as goal
 

@@ -1,5 +1,5 @@
 use Rattle.std.proofs.Common.{◌-◌}
-use Rattle.kt_world.specs.Plain.{job_of}
+use Rattle.kt_small_world.specs.Plain.{job_of}
 use Rattle.kt_play.proofs.RunLemmas.{GoesOn}
 use Rattle.kt_play.proofs.turns.take_turns.Given as goal
 

@@ -1,4 +1,4 @@
-use Rattle.kt_world.specs.Plain.{job_of}
+use Rattle.kt_small_world.specs.Plain.{job_of}
 use Rattle.kt_play.specs.Engine.{world_of}
 use Rattle.kt_play.proofs.Settled.{turned}
 use Rattle.kt_play.proofs.machine.Machine.turn.Goals as goal

@@ -1,12 +1,12 @@
-use Rattle.kt_world.specs.Laws.{followed, main-alone, world-next}
-use Rattle.kt_world.specs.Plain.{job_of}
-use Rattle.kt_world.specs.Turn.{tree_engine, world}
-use Rattle.kt_world.specs.Kept.{world_from-keeps}
-use Rattle.kt_world.specs.Typed.{IsTypedWorld}
-use Rattle.kt_world.specs.TypedWorlds.{IsTypedWorld-kept, first_world-typed}
-use Rattle.kt_world.specs.WellFormed.{IsWellFormed}
-use Rattle.kt_world.specs.WellFormedLaws.{IsWellFormed-kept, first_world-well_formed}
-use Rattle.kt_world.proofs.laws.world_law.Goals as goal
+use Rattle.kt_small_world.specs.Laws.{followed, main-alone, world-next}
+use Rattle.kt_small_world.specs.Plain.{job_of}
+use Rattle.kt_small_world.specs.Turn.{tree_engine, world}
+use Rattle.kt_small_world.specs.Kept.{world_from-keeps}
+use Rattle.kt_small_world.specs.Typed.{IsTypedWorld}
+use Rattle.kt_small_world.specs.TypedWorlds.{IsTypedWorld-kept, first_world-typed}
+use Rattle.kt_small_world.specs.WellFormed.{IsWellFormed}
+use Rattle.kt_small_world.specs.WellFormedLaws.{IsWellFormed-kept, first_world-well_formed}
+use Rattle.kt_small_world.proofs.laws.world_law.Goals as goal
 
 pub returns : goal.returns
 returns c =

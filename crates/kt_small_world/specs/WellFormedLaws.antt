@@ -14,15 +14,15 @@ use Rattle.kt_small.specs.declared.acts.Reply.{Reply}
 use Rattle.kt_small.specs.declared.acts.Reply.TheVariants.{Done}
 use Rattle.kt_small.specs.Steps.{Step, Quiet, Acts, Traps, Ends}
 use Rattle.kt_small.specs.Tree.{Version}
-use Rattle.kt_world.specs.declared.mark.Phase.{Phase}
-use Rattle.kt_world.specs.declared.mark.Phase.TheVariants.{Run, Asked, Main, Others}
-use Rattle.kt_world.specs.Job.{Job, version_at}
-use Rattle.kt_world.specs.World.{Engine, Live, Parked, Shared, Thread, World}
-use Rattle.kt_world.specs.Update.{first_value, kept_value, kept_values, placed, point_named, point_of, new_point, next_point, let_go, updating_from, restarted, updated, refused}
-use Rattle.kt_world.specs.Turn.{with_thread, going_on, at_point, migrated, act_effect, effect, first_globals, first_world}
-use Rattle.kt_world.specs.SharedLaws.{KeepsMemory}
-use Rattle.kt_world.specs.Kept.{IsKept, before_turn-keeps}
-use Rattle.kt_world.specs.WellFormed.{globals_of, points_of, IsOnTheWay, IsWellFormed}
+use Rattle.kt_small_world.specs.declared.mark.Phase.{Phase}
+use Rattle.kt_small_world.specs.declared.mark.Phase.TheVariants.{Run, Asked, Main, Others}
+use Rattle.kt_small_world.specs.Job.{Job, version_at}
+use Rattle.kt_small_world.specs.World.{Engine, Live, Parked, Shared, Thread, World}
+use Rattle.kt_small_world.specs.Update.{first_value, kept_value, kept_values, placed, point_named, point_of, new_point, next_point, let_go, updating_from, restarted, updated, refused}
+use Rattle.kt_small_world.specs.Turn.{with_thread, going_on, at_point, migrated, act_effect, effect, first_globals, first_world}
+use Rattle.kt_small_world.specs.SharedLaws.{KeepsMemory}
+use Rattle.kt_small_world.specs.Kept.{IsKept, before_turn-keeps}
+use Rattle.kt_small_world.specs.WellFormed.{globals_of, points_of, IsOnTheWay, IsWellFormed}
 
 -- ---- points
 

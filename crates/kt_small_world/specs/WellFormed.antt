@@ -5,8 +5,8 @@ use Rattle.kt_small.specs.declared.acts.Mode.{Mode}
 use Rattle.kt_small.specs.declared.acts.Mode.TheVariants.{Normal, Updating}
 use Rattle.kt_small.specs.declared.tree.Global.{Global}
 use Rattle.kt_small.specs.Tree.{Version}
-use Rattle.kt_world.specs.Job.{Job, version_at}
-use Rattle.kt_world.specs.World.{Thread, World}
+use Rattle.kt_small_world.specs.Job.{Job, version_at}
+use Rattle.kt_small_world.specs.World.{Thread, World}
 
 abbrev pub globals_of : Option Version → List Global
 globals_of None = []

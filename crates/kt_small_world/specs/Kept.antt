@@ -1,13 +1,13 @@
 -- What turns keep: a property of worlds that an act, an update, a refusal, and changes beside memory keep.
 use Rattle.std.specs.Prelude.{◌≡◌, ℕ, ◌+◌, List, [], ◌∷◌, Option, Some, None, is_none, Bool, true, false, if◌then◌else◌, slice_get, refl}
 use Rattle.kt_small.specs.Tree.{Version}
-use Rattle.kt_world.specs.declared.mark.Phase.{Phase}
-use Rattle.kt_world.specs.declared.mark.Phase.TheVariants.{Run, Asked, Main, Others}
-use Rattle.kt_world.specs.Job.{Job, version_at}
-use Rattle.kt_world.specs.World.{Engine, Shared, Thread, World}
-use Rattle.kt_world.specs.Update.{lost_point, updated, refused, decided, closed_between, closing}
-use Rattle.kt_world.specs.Turn.{effect, act_of, act, ongoing, with_mark, main_is_normal, all_normal, all_parked, main_there, all_back, closed_up, asked, spent, on_shared, before_turn, after_act, turn, world_from}
-use Rattle.kt_world.specs.SharedLaws.{KeepsMemory, with_mark-keeps, asked-keeps, spent-keeps}
+use Rattle.kt_small_world.specs.declared.mark.Phase.{Phase}
+use Rattle.kt_small_world.specs.declared.mark.Phase.TheVariants.{Run, Asked, Main, Others}
+use Rattle.kt_small_world.specs.Job.{Job, version_at}
+use Rattle.kt_small_world.specs.World.{Engine, Shared, Thread, World}
+use Rattle.kt_small_world.specs.Update.{lost_point, updated, refused, decided, closed_between, closing}
+use Rattle.kt_small_world.specs.Turn.{effect, act_of, act, ongoing, with_mark, main_is_normal, all_normal, all_parked, main_there, all_back, closed_up, asked, spent, on_shared, before_turn, after_act, turn, world_from}
+use Rattle.kt_small_world.specs.SharedLaws.{KeepsMemory, with_mark-keeps, asked-keeps, spent-keeps}
 
 pub record IsKept {X : Type 0} (e : Engine X) (job : Job) (P : World X → Type 0) : Type 0 where
   pub shared : (s r : Shared) (l : List (Thread X)) → KeepsMemory s r → P (record { shared = s; threads = l }) →

@@ -19,7 +19,7 @@ use Rattle.kt_small.specs.Tree.{Statement, Assigning, Putting, Returning, Choosi
 use Rattle.kt_small.specs.Thread.{Run, Do, Eval, Have, Right, Left, Assigns, Puts, Returns, Chooses, Loops, Work, value_of, begin_step, eval_step, with_result, take_step, step, settle}
 use Rattle.kt_small.specs.Steps.{Step, Quiet, Acts, Traps, Ends, ComesQuietly}
 use Rattle.kt_small.specs.TreeSettling.{settle-settles}
-use Rattle.kt_world.specs.Typed.{IsInt, IsTypedExpr, IsTypedStatement, IsTypedBlock, IsTypedWork, IsTypedAct, IsTypedReply}
+use Rattle.kt_small_world.specs.Typed.{IsInt, IsTypedExpr, IsTypedStatement, IsTypedBlock, IsTypedWork, IsTypedAct, IsTypedReply}
 
 -- ---- numbers
 

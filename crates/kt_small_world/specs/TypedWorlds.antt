@@ -13,17 +13,17 @@ use Rattle.kt_small.specs.declared.acts.Reply.TheVariants.{Done, Got}
 use Rattle.kt_small.specs.Steps.{Step, Quiet, Acts, Traps, Ends}
 use Rattle.kt_small.specs.Thread.{Work, settle}
 use Rattle.kt_small.specs.Tree.{Version}
-use Rattle.kt_world.specs.declared.mark.Phase.{Phase}
-use Rattle.kt_world.specs.declared.mark.Phase.TheVariants.{Run, Asked, Main, Others}
-use Rattle.kt_world.specs.Job.{Job, version_at}
-use Rattle.kt_world.specs.World.{Live, Parked, Shared, Thread, World}
-use Rattle.kt_world.specs.Update.{value_at, global_named, kept_value, placed, passed, let_go, restarted, updated, refused}
-use Rattle.kt_world.specs.Turn.{with_thread, going_on, at_point, migrated, act_effect, effect, first_globals, first_world, entry_of, tree_engine}
-use Rattle.kt_world.specs.SharedLaws.{KeepsMemory}
-use Rattle.kt_world.specs.Kept.{IsKept, before_turn-keeps}
-use Rattle.kt_world.specs.WellFormed.{globals_of, points_of}
-use Rattle.kt_world.specs.Typed.{IsInt, IsIntIfSome, IsTypedWork, IsTypedAct, IsTypedReply, IsTypedVersion, IsTypedJob, IsTypedWorld}
-use Rattle.kt_world.specs.TypedLaws.{IsTypedStep, settle-typed}
+use Rattle.kt_small_world.specs.declared.mark.Phase.{Phase}
+use Rattle.kt_small_world.specs.declared.mark.Phase.TheVariants.{Run, Asked, Main, Others}
+use Rattle.kt_small_world.specs.Job.{Job, version_at}
+use Rattle.kt_small_world.specs.World.{Live, Parked, Shared, Thread, World}
+use Rattle.kt_small_world.specs.Update.{value_at, global_named, kept_value, placed, passed, let_go, restarted, updated, refused}
+use Rattle.kt_small_world.specs.Turn.{with_thread, going_on, at_point, migrated, act_effect, effect, first_globals, first_world, entry_of, tree_engine}
+use Rattle.kt_small_world.specs.SharedLaws.{KeepsMemory}
+use Rattle.kt_small_world.specs.Kept.{IsKept, before_turn-keeps}
+use Rattle.kt_small_world.specs.WellFormed.{globals_of, points_of}
+use Rattle.kt_small_world.specs.Typed.{IsInt, IsIntIfSome, IsTypedWork, IsTypedAct, IsTypedReply, IsTypedVersion, IsTypedJob, IsTypedWorld}
+use Rattle.kt_small_world.specs.TypedLaws.{IsTypedStep, settle-typed}
 
 -- ---- values
 

@@ -9,16 +9,16 @@ use Rattle.kt_small.specs.declared.acts.Reply.{Reply}
 use Rattle.kt_small.specs.declared.acts.Reply.TheVariants.{Done, Got}
 use Rattle.kt_small.specs.Steps.{Step, Acts, Traps, Ends, SameHead, AgreeFor, DoesSameActs}
 use Rattle.kt_small.specs.Tree.{Version}
-use Rattle.kt_world.specs.declared.mark.End.TheVariants as end
-use Rattle.kt_world.specs.declared.mark.Phase.{Phase}
-use Rattle.kt_world.specs.declared.mark.Phase.TheVariants.{Run, Asked, Main, Others}
-use Rattle.kt_world.specs.Job.{Job, version_at}
-use Rattle.kt_world.specs.World.{Engine, Live, Parked, Shared, Thread, World}
-use Rattle.kt_world.specs.Update.{value_at, next_point, updating_from, let_go, restarted, lost_point, decided, closed_between, closing}
-use Rattle.kt_world.specs.Turn.{going_on, at_point, migrated, act_effect, effect, act_of, act, counted, ongoing, with_mark, end_marked, main_is_normal, all_normal, all_parked, main_there, all_back, closed_up, asked, spent, on_shared, before_turn, after_act, is_turnable, is_enabled, turn, first_globals, first_world, world_from, MayTurn, MayTurnAll}
-use Rattle.kt_world.specs.SharedLaws.{with_mark-keeps, asked-keeps, spent-keeps}
-pub use Rattle.kt_world.specs.SameThreads.{IsSameThread, AreSameThreads, DoesSameActs-refl}
-use Rattle.kt_world.specs.SameThreads.{AreSameFound, AreSameThreads-trans, passed-same, next_point-same, slice_get-same, slice_set-same, all_normal-same, all_parked-same, main_is_normal-same, is_live-same, map-same}
+use Rattle.kt_small_world.specs.declared.mark.End.TheVariants as end
+use Rattle.kt_small_world.specs.declared.mark.Phase.{Phase}
+use Rattle.kt_small_world.specs.declared.mark.Phase.TheVariants.{Run, Asked, Main, Others}
+use Rattle.kt_small_world.specs.Job.{Job, version_at}
+use Rattle.kt_small_world.specs.World.{Engine, Live, Parked, Shared, Thread, World}
+use Rattle.kt_small_world.specs.Update.{value_at, next_point, updating_from, let_go, restarted, lost_point, decided, closed_between, closing}
+use Rattle.kt_small_world.specs.Turn.{going_on, at_point, migrated, act_effect, effect, act_of, act, counted, ongoing, with_mark, end_marked, main_is_normal, all_normal, all_parked, main_there, all_back, closed_up, asked, spent, on_shared, before_turn, after_act, is_turnable, is_enabled, turn, first_globals, first_world, world_from, MayTurn, MayTurnAll}
+use Rattle.kt_small_world.specs.SharedLaws.{with_mark-keeps, asked-keeps, spent-keeps}
+pub use Rattle.kt_small_world.specs.SameThreads.{IsSameThread, AreSameThreads, DoesSameActs-refl}
+use Rattle.kt_small_world.specs.SameThreads.{AreSameFound, AreSameThreads-trans, passed-same, next_point-same, slice_get-same, slice_set-same, all_normal-same, all_parked-same, main_is_normal-same, is_live-same, map-same}
 
 -- the world of one engine stands for that of another: what is shared is equal, and the threads stand for one another
 pub record IsSameWorld {X Y : Type 0} (e : Engine X) (f : Engine Y) (w : World X) (v : World Y) : Type 0 where

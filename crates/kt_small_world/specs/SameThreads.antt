@@ -6,9 +6,9 @@ use Rattle.std.proofs.Common.{ap, ◌∙◌}
 use Rattle.kt_small.specs.declared.acts.Reply.TheVariants.{Done}
 use Rattle.kt_small.specs.Steps.{Step, Quiet, Acts, Traps, Ends, IsHead, SameHead, AgreeFor, DoesSameActs}
 use Rattle.kt_small.specs.Tree.{Version}
-use Rattle.kt_world.specs.World.{Thread}
-use Rattle.kt_world.specs.Update.{point_of_act, point_of, new_point, next_point, passed}
-use Rattle.kt_world.specs.Turn.{is_normal, main_is_normal, is_parked, all_normal, all_parked, is_live}
+use Rattle.kt_small_world.specs.World.{Thread}
+use Rattle.kt_small_world.specs.Update.{point_of_act, point_of, new_point, next_point, passed}
+use Rattle.kt_small_world.specs.Turn.{is_normal, main_is_normal, is_parked, all_normal, all_parked, is_live}
 
 -- two threads, each of which settles by its own function
 pub record IsSameThread {X Y : Type 0} (settle : X → Step X) (settle' : Y → Step Y) (a : Thread X) (b : Thread Y) : Type 0 where

@@ -1,0 +1,15 @@
+pub mod Job
+pub mod World
+pub mod Update
+pub mod Turn
+pub mod Laws
+pub mod SharedLaws
+pub mod SameThreads
+pub mod Same
+pub mod Kept
+pub mod WellFormed
+pub mod WellFormedLaws
+pub mod Typed
+pub mod TypedLaws
+pub mod TypedWorlds
+pub mod Plain
