@@ -8,16 +8,22 @@ use Rattle.kt_code.specs.Looks.{code_threads, tree_threads}
 use Rattle.kt_code.specs.Settling.{Fits}
 use Rattle.kt_code.specs.declared.private.Private.{Private}
 use Rattle.kt_pair.specs.Pair.{Pair}
-use Rattle.kt_world.specs.World.{Thread, World}
+use Rattle.kt_world.specs.World.{Standing, Live, Parked, Ended, Thread, World}
 
 -- the states do the same acts in version v, and that of code fits it
 abbrev pub IsSameState : ℕ → Option Pair → tree.Thread → Private → Type 0
 IsSameState v None x y = Unit {0}
 IsSameState v (Some c) x y = DoesSameActs (tree_threads (numbered c.program v)) (code_threads c.code) x y × Fits c.code y
 
+-- unless they have ended
+abbrev pub IsSameUnlessEnded : Standing → ℕ → Option Pair → tree.Thread → Private → Type 0
+IsSameUnlessEnded Live v c x y = IsSameState v c x y
+IsSameUnlessEnded Parked v c x y = IsSameState v c x y
+IsSameUnlessEnded Ended v c x y = Unit {0}
+
 pub record IsSameThread (v : ℕ) (c : Option Pair) (x : Thread tree.Thread) (y : Thread Private) : Type 0 where
   pub standing : x.standing ≡ y.standing
-  pub state : IsSameState v c x.state y.state
+  pub state : IsSameUnlessEnded x.standing v c x.state y.state
 
 abbrev pub AreSameThreads : ℕ → Option Pair → List (Thread tree.Thread) → List (Thread Private) → Type 0
 AreSameThreads v c [] [] = Unit {0}

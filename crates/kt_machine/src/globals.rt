@@ -14,7 +14,6 @@ pub fn first_heap(alloc: Global, v: u8, version: &Version, next: u64) -> Result<
     ensures memory { IfOk result (λ heap. memory heap ≡ plain.first_memory v version.now next) }
     ensures given { IfOk result (λ heap. given heap ≡ []) }
 {
-    let _ = (alloc, v, version, next);
     Err(AllocError)
 }
 
@@ -27,7 +26,6 @@ pub fn kept_values(
 ) -> Result<Vec<Option<Value>>, AllocError>
     ensures { IfOk result (λ kept. kept.items ≡ plain.kept_values old.now (memory heap.now) new.now) }
 {
-    let _ = (alloc, old, heap, new);
     Err(AllocError)
 }
 
@@ -36,7 +34,6 @@ pub fn place(heap: &mut Heap, kept: &[Option<Value>])
     ensures placed { memory heap.new ≡ plain.placed kept.now (memory heap.old) }
     ensures given { given heap.new ≡ given heap.old }
 {
-    let _ = (heap, kept);
 }
 
 /// The point of the new version with the name of this point of the old one.

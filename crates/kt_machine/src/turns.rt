@@ -27,6 +27,5 @@ pub fn take_turns(alloc: Global, job: &Job, codes: &[Compiled]) -> Result<Report
     requires typed { IsTypedJob (job_of job.now) }
     ensures { IfOk result (λ report. HasRun (job_of job.now) report.turns report.how report.output.items report.marks.items) }
 {
-    let _ = (alloc, job, codes);
     Err(AllocError)
 }
