@@ -1,1 +1,6 @@
+mod Acting
+mod Closings
+mod Codes
 mod Heads
+mod Starting
+mod Turning

@@ -101,7 +101,8 @@ impl Machine {
                 Some(point) => self.restart(alloc, job, codes, old, new, point),
                 None => self.refuse(alloc, codes),
             },
-            Standing::Live | Standing::Ended => self.update(alloc, old, new),
+            Standing::Ended => self.update(alloc, old, new),
+            Standing::Live => Ok(()),
         }
     }
 

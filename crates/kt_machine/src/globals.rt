@@ -1,5 +1,5 @@
 //! The globals of versions: the heap with which a version begins, what an update keeps of the old ones, and points by name.
-ghost use Rattle.std.specs.Prelude.{◌≡◌, ◌<◌, [], IfOk, IfSome};
+ghost use Rattle.std.specs.Prelude.{◌≡◌, ◌<◌, ◌≤◌, [], length, IfOk, IfSome};
 ghost use Rattle.kt_heap.specs.Heap.{memory, given};
 ghost use Rattle.kt_world.specs.Update as plain;
 ghost use Rattle.kt_machine.specs.Outside.{HasCharLiterals};
@@ -26,13 +26,15 @@ pub fn kept_values(
     heap: &Heap,
     new: &Version,
 ) -> Result<Vec<Option<Value>>, AllocError>
-    ensures { IfOk result (λ kept. kept.items ≡ plain.kept_values old.now (memory heap.now) new.now) }
+    ensures values { IfOk result (λ kept. kept.items ≡ plain.kept_values old.now (memory heap.now) new.now) }
+    ensures few { IfOk result (λ kept. length kept.items ≤ 4294967296) }
 {
     Err(AllocError)
 }
 
 /// Stores the kept values, each into the global of its number.
 pub fn place(heap: &mut Heap, kept: &[Option<Value>])
+    requires { length kept.now ≤ 4294967296 }
     ensures placed { memory heap.new ≡ plain.placed kept.now (memory heap.old) }
     ensures given { given heap.new ≡ given heap.old }
 {
@@ -43,8 +45,6 @@ pub fn new_point(old: &Version, new: &Version, point: u32) -> Option<u32>
     ensures place { result ≡ plain.new_point old.now new.now point }
     ensures within { IfSome result (λ place. place < new.now.points.updates) }
 {
-    let _ = old;
-    let _ = new;
-    let _ = point;
-    None
+    let name = old.points().as_slice().get(point as usize)?;
+    new.point(name.as_bytes())
 }
