@@ -3,4 +3,5 @@ mod Closings
 mod Codes
 mod Heads
 mod Starting
+mod Trying
 mod Turning
