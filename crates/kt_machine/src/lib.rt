@@ -2,10 +2,13 @@
 //! run has written and how it has ended. So far its one thread is `main`.
 #![tactic(auto)]
 
+mod allocate;
 mod effects;
 mod globals;
 mod machine;
+mod mutex;
 mod outside;
+mod print;
 mod shared;
 mod turns;
 
