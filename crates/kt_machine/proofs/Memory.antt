@@ -1,5 +1,5 @@
 -- Acts on memory keep its literals; stores of mutexes.
-use Rattle.std.proofs.Common.{◌≡◌, ℕ, zero, suc, true, false, Bool, cond, List, [], ◌∷◌, slice_get, Option, Some, None, Result, Ok, Err, IsOk, IfErr, OnOk, OnErr, refl, sym, ◌∙◌, ap, subst}
+use Rattle.std.proofs.Common.{◌≡◌, ℕ, zero, suc, ◌+◌, true, false, Bool, cond, List, [], ◌∷◌, slice_get, Option, Some, None, Result, Ok, Err, IsOk, IfErr, OnOk, OnErr, refl, sym, ◌∙◌, ap, subst}
 use Rattle.std.specs.List.{AllByRecursion}
 use Rattle.kt_types.specs.declared.kinds.Ty.{Ty}
 use Rattle.kt_types.specs.declared.kinds.Ty.TheVariants as ty
@@ -11,6 +11,7 @@ use Rattle.kt_mem.specs.declared.steps.Trap.TheVariants as trap
 use Rattle.kt_mem.specs.Values.{ty_eq}
 use Rattle.kt_mem.specs.Memory.{Memory, Object, Cell, put, cell_value, value_in, value_at, and_then, written, with_value, unless_literal, store, release, released, without, made}
 use Rattle.kt_meaning.specs.Effects.{Shared, Replies, leaves, with_memory}
+use Rattle.kt_world.specs.Update.{or_same, placed_one, placed_from}
 use Rattle.kt_machine.specs.Outside.{HasCharLiterals, KeepsLiterals, left_by, done}
 
 -- ---- literals
@@ -69,6 +70,23 @@ release-literals m new (Num z) h = ok-err trap.Dead new h
 release-literals m new Free h = ok-err trap.Dead new h
 release-literals m new (Held k) h = ok-err trap.Dead new h
 release-literals m new Undef h = ok-err trap.Dead new h
+
+placed_one-literals : (i : ℕ) (v : Option Value) (m : Memory) → KeepsLiterals m (placed_one i v m)
+placed_one-literals i None m = same-literals m m refl
+placed_one-literals i (Some v) m = by_answer (store m (Ptr (Glob i) 0) ty.Int v) refl
+  where
+    by_answer : (r : Result Memory Trap) → store m (Ptr (Glob i) 0) ty.Int v ≡ r → KeepsLiterals m (or_same m r)
+    by_answer (Ok n) e = store-literals m n (Ptr (Glob i) 0) ty.Int v e
+    by_answer (Err t) e = same-literals m m refl
+
+placed_from-literals : (i : ℕ) (kept : List (Option Value)) (m : Memory) → KeepsLiterals m (placed_from i kept m)
+placed_from-literals i [] m w j = refl
+placed_from-literals i (v ∷ kept) m w j =
+    placed_from-literals (i + 1) kept (placed_one i v m) w j ∙ placed_one-literals i v m w j
+
+-- as do kept values that are placed
+pub placed-literals : (i : ℕ) (kept : List (Option Value)) (m new : Memory) → new ≡ placed_from i kept m → KeepsLiterals m new
+placed-literals i kept m new e w j = ap (λ (x : Memory). x.at (Lit w j)) e ∙ placed_from-literals i kept m w j
 
 pub made-literals : (m new : Memory) (a : ℕ) (o : Object) → new ≡ made m a o → KeepsLiterals m new
 unfolding put

@@ -1,10 +1,11 @@
 //! Allocations.
-ghost use Rattle.std.specs.Prelude.{◌≡◌, true, IfOk};
+ghost use Rattle.std.specs.Prelude.{◌≡◌, ◌≤◌, pos, length, true, Bool, IfOk, IfSome, List, ℕ};
 ghost use Rattle.std.specs.Option.{is_some};
 ghost use Rattle.kt_heap.specs.Heap.{memory};
-ghost use Rattle.kt_mem.specs.Memory.{alloc};
 ghost use Rattle.kt_meaning.specs.Effects as plain;
+ghost use Rattle.kt_mem.specs.Memory as mem;
 ghost use Rattle.kt_types.specs.Layout.{cells, layout};
+ghost use Rattle.kt_types.specs.declared.kinds.Ty.{Ty as CellType};
 ghost use Rattle.kt_machine.specs.Outside.{KeepsLiterals};
 
 use kt_heap::{AllocFault, Heap};
@@ -22,21 +23,33 @@ pub(crate) fn allocate(
     zero: bool,
 ) -> Result<Reply, AllocError>
     requires { is_some (layout types.now ty) ≡ true }
-    ensures made { IfOk result (λ r. (s : plain.Shared) → plain.makes (record s { memory = memory heap.old }) (alloc (memory heap.old) ty (cells types.now ty) count zero) ≡ plain.Replies r (record s { memory = memory heap.new })) }
+    ensures made { IfOk result (λ r. (s : plain.Shared) → plain.makes (record s { memory = memory heap.old }) (mem.alloc (memory heap.old) ty (cells types.now ty) count zero) ≡ plain.Replies r (record s { memory = memory heap.new })) }
     ensures literals { KeepsLiterals (memory heap.old) (memory heap.new) }
 {
-    if count < 1 || count > i64::from(u32::MAX) {
+    let Some(count) = element_count(count) else {
         return Ok(Reply::Trapped(Trap::Size));
-    }
+    };
     if heap.next() >= 9_223_372_036_854_775_807 || heap.given() >= 4_294_967_296 {
         return Err(AllocError);
     }
     let cells = cell_types(alloc, types, ty)?;
-    match heap.alloc(ty, cells.as_slice(), count as u32, zero) {
+    match heap.alloc(ty, cells.as_slice(), count, zero) {
         Ok(a) => Ok(Reply::Got(Value::Ptr(Name::Heap(a), 0))),
         Err(AllocFault::Size) => Ok(Reply::Trapped(Trap::Size)),
         Err(AllocFault::Heap) => Ok(Reply::Trapped(Trap::Heap)),
         Err(AllocFault::NoMemory) => Err(AllocError),
+    }
+}
+
+/// The count, where it is one that an object may have.
+fn element_count(count: i64) -> Option<u32>
+    ensures none { result ≡ None → (m : mem.Memory) (ty : ℕ) (cells : List CellType) (zeros : Bool) → 1 ≤ length cells → mem.alloc m ty cells count zeros ≡ Err Trap.Size }
+    ensures some { IfSome result (λ n. count ≡ pos n) }
+{
+    if (1..=i64::from(u32::MAX)).contains(&count) {
+        Some(count as u32)
+    } else {
+        None
     }
 }
 
