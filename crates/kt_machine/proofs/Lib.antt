@@ -1,3 +1,4 @@
+pub mod Allocations
 pub mod Lists
 pub mod Memory
 pub mod Printing

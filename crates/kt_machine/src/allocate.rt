@@ -1,5 +1,5 @@
 //! Allocations.
-ghost use Rattle.std.specs.Prelude.{◌≡◌, ◌≤◌, pos, length, true, Bool, IfOk, IfSome, List, ℕ};
+ghost use Rattle.std.specs.Prelude.{◌≡◌, ◌≤◌, pos, length, true, Bool, IfOk, IfSome, List, OnOk, ℕ};
 ghost use Rattle.std.specs.Option.{is_some};
 ghost use Rattle.kt_heap.specs.Heap.{memory};
 ghost use Rattle.kt_meaning.specs.Effects as plain;
@@ -26,13 +26,13 @@ pub(crate) fn allocate(
     ensures made { IfOk result (λ r. (s : plain.Shared) → plain.makes (record s { memory = memory heap.old }) (mem.alloc (memory heap.old) ty (cells types.now ty) count zero) ≡ plain.Replies r (record s { memory = memory heap.new })) }
     ensures literals { KeepsLiterals (memory heap.old) (memory heap.new) }
 {
+    let cells = cell_types(alloc, types, ty)?;
     let Some(count) = element_count(count) else {
         return Ok(Reply::Trapped(Trap::Size));
     };
     if heap.next() >= 9_223_372_036_854_775_807 || heap.given() >= 4_294_967_296 {
         return Err(AllocError);
     }
-    let cells = cell_types(alloc, types, ty)?;
     match heap.alloc(ty, cells.as_slice(), count, zero) {
         Ok(a) => Ok(Reply::Got(Value::Ptr(Name::Heap(a), 0))),
         Err(AllocFault::Size) => Ok(Reply::Trapped(Trap::Size)),
@@ -56,7 +56,9 @@ fn element_count(count: i64) -> Option<u32>
 /// The cell types of one element.
 fn cell_types(alloc: Global, types: &TypeTable, ty: u32) -> Result<Vec<Ty>, AllocError>
     requires { is_some (layout types.now ty) ≡ true }
-    ensures { IfOk result (λ found. found.items ≡ cells types.now ty) }
+    ensures cells { IfOk result (λ found. found.items ≡ cells types.now ty) }
+    ensures some { OnOk result (1 ≤ length (cells types.now ty)) }
+    ensures few { OnOk result (length (cells types.now ty) ≤ 65536) }
 {
     let mut found = Vec::new(alloc);
     for i in 0..types.cells_of(ty) {
