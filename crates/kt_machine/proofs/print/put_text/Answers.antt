@@ -1,4 +1,4 @@
-use Rattle.std.proofs.Common.{◌+◌, [], ◌∷◌, drop, length, ◌≤◌, Some, None, Ok, Err, sym, ◌∙◌, ap, subst, arith}
+use Rattle.std.proofs.Common.{◌+◌, [], ◌∷◌, drop, length, ◌≤◌, Ok, Err, sym, ◌∙◌, ap, subst, arith}
 use Rattle.kt_mem.specs.declared.steps.Trap.TheVariants as trap
 use Rattle.kt_meaning.specs.Effects.{text_of}
 use Rattle.kt_machine.specs.Printing.{IsPutUpTo, text_from}
