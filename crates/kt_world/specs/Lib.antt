@@ -4,4 +4,6 @@ pub mod Update
 pub mod Turn
 pub mod Plain
 pub mod Laws
+pub mod SharedLaws
+pub mod Kept
 pub mod Typed

@@ -1,0 +1,17 @@
+use Rattle.kt_world.specs.Laws.{followed, main-alone, world-next}
+use Rattle.kt_world.specs.Plain.{job_of}
+use Rattle.kt_world.specs.Turn.{tree_engine, world}
+use Rattle.kt_world.specs.Kept.{world_from-keeps}
+use Rattle.kt_world.proofs.laws.world_law.Goals as goal
+
+pub returns : goal.returns
+returns c =
+    let j = job_of c.args.job.now in
+    let turns = c.args.turns.now in
+    record {
+      followed = followed j turns;
+      next = λ t may. world-next j turns t;
+      main_alone = λ t may on_its_way. main-alone (tree_engine j) (world j turns) t on_its_way ((followed j turns t).0 may).1;
+      well_formed = ?;
+      typed = ?;
+    }
