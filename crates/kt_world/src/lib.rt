@@ -2,5 +2,4 @@
 #![tactic(auto)]
 
 pub mod job;
-pub mod laws;
 pub mod mark;
