@@ -7,3 +7,6 @@ pub mod Laws
 pub mod SharedLaws
 pub mod Kept
 pub mod Typed
+pub mod TypedThreads
+pub mod TypedMemories
+pub mod TypedWorlds
