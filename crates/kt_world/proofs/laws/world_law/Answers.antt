@@ -1,4 +1,3 @@
-use Rattle.kt_world.specs.TypedWorlds
 use Rattle.kt_world.specs.Laws.{followed, main-alone, world-next}
 use Rattle.kt_world.specs.Plain.{job_of}
 use Rattle.kt_world.specs.Turn.{tree_engine, world}
