@@ -11,10 +11,11 @@ use Rattle.kt_world.specs.Update.{lost_point, updated, refused, decided, closed_
 use Rattle.kt_world.specs.Turn.{effect, act_of, acted, counted, any_enabled, ongoing, on_shared, with_mark, end_marked, ended_as, main_is_normal, all_normal, all_parked, main_there, all_back, closed_up, asked, stuck, spent, before_turn, after_act, turn, start, first_world, world_from, MayTurn, MayTurnAll}
 use Rattle.kt_world.specs.SharedLaws.{KeepsOutside, with_mark-keeps, asked-keeps, spent-keeps}
 
--- the versions between which the worlds of an update or a refusal lie
+-- the versions between which the worlds of an update or a refusal lie; no thread lives that isn't parked
 pub record IsBetween {X : Type 0} (job : Job) (old new : Program) (w : World X) : Type 0 where
   pub from : version_at job w.shared.version ≡ Some old
   pub to : version_at job (w.shared.version + 1) ≡ Some new
+  pub parked : all_parked w.threads ≡ true
 
 pub record IsKept {X : Type 0} (e : Engine X) (job : Job) (P : World X → Type 0) : Type 0 where
   pub shared : (s r : Shared) (l : List (Thread X)) → KeepsOutside s r → P (record { shared = s; threads = l }) →
@@ -59,17 +60,20 @@ module _ {X : Type 0} (e : Engine X) (job : Job) (P : World X → Type 0) (kept 
   decided-keeps old new (Some t) w found between h = kept.refusal old new t w between h
 
   closed_between-keeps : (old new : Option Program) (w : World X) → version_at job w.shared.version ≡ old →
-      version_at job (w.shared.version + 1) ≡ new → P w → P (closed_between e old new w)
-  closed_between-keeps None new w from to h = h
-  closed_between-keeps (Some old) None w from to h = h
-  closed_between-keeps (Some old) (Some new) w from to h =
-      decided-keeps old new (lost_point e w.shared.version old new 0 w.threads) w refl (record { from = from; to = to }) h
+      version_at job (w.shared.version + 1) ≡ new → all_parked w.threads ≡ true → P w → P (closed_between e old new w)
+  closed_between-keeps None new w from to parked h = h
+  closed_between-keeps (Some old) None w from to parked h = h
+  closed_between-keeps (Some old) (Some new) w from to parked h =
+      decided-keeps old new (lost_point e w.shared.version old new 0 w.threads) w refl (record { from = from; to = to; parked = parked }) h
+
+  parked-keeps : (b : Bool) (w : World X) → all_parked w.threads ≡ b → P w → P (if b then closing e job w else w)
+  parked-keeps true w parked h =
+      closed_between-keeps (version_at job w.shared.version) (version_at job (w.shared.version + 1)) w refl refl parked h
+  parked-keeps false w parked h = h
 
   closed_up-keeps : (phase : Phase) (w : World X) → P w → P (closed_up e job phase w)
   closed_up-keeps Run w h = h
-  closed_up-keeps Asked w h =
-      if-keeps (all_parked w.threads) (closing e job w) w
-      (closed_between-keeps (version_at job w.shared.version) (version_at job (w.shared.version + 1)) w refl refl h) h
+  closed_up-keeps Asked w h = parked-keeps (all_parked w.threads) w refl h
   closed_up-keeps Main w h = h
   closed_up-keeps Others w h = h
 

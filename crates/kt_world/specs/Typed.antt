@@ -13,7 +13,7 @@ use Rattle.kt_meaning.specs.ThreadTypes.{IsThread}
 use Rattle.kt_meaning.specs.Values.{is_of}
 use Rattle.kt_world.specs.Job.{Job, version_at, types_of}
 use Rattle.kt_world.specs.Update.{global_object}
-use Rattle.kt_world.specs.World.{Thread, World, outside_of}
+use Rattle.kt_world.specs.World.{Standing, Live, Parked, Ended, Thread, World, outside_of}
 
 -- ---- each world
 
@@ -58,9 +58,15 @@ abbrev pub IsThreadOf : Option Program → tree.Thread → Type 0
 IsThreadOf None x = Unit {0}
 IsThreadOf (Some p) x = IsThread p x
 
+-- unless it has ended
+abbrev pub IsTypedThread : Option Program → Standing → tree.Thread → Type 0
+IsTypedThread p Live x = IsThreadOf p x
+IsTypedThread p Parked x = IsThreadOf p x
+IsTypedThread p Ended x = Unit {0}
+
 pub record IsTypedWorld (job : Job) (w : World tree.Thread) : Type 0 where
   -- each cell of memory is of its type, each byte of the input is one, and not too much was written
   pub shared : IsShared (outside_of w.shared)
   pub kept : All IsIntIfSome w.shared.kept
-  -- each thread is one of the version in force
-  pub threads : All (λ (th : Thread tree.Thread). IsThreadOf (version_at job w.shared.version) th.state) w.threads
+  -- each thread that has not ended is one of the version in force
+  pub threads : All (λ (th : Thread tree.Thread). IsTypedThread (version_at job w.shared.version) th.standing th.state) w.threads

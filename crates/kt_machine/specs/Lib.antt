@@ -1,0 +1,5 @@
+pub mod Outside
+pub mod Shared
+pub mod Engine
+pub mod Same
+pub mod Report

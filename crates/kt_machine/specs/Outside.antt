@@ -1,0 +1,39 @@
+-- What acts on memory, input and output touch, as the machine keeps it: the heap, the rest of the input, the output.
+use Rattle.std.specs.Prelude.{◌≡◌, ℕ, List, Some}
+use Rattle.std.specs.List.{AllByRecursion}
+use Rattle.std.specs.Option.{is_some}
+use Rattle.kt_types.specs.declared.kinds.Ty.TheVariants as ty
+use Rattle.kt_types.specs.Layout.{layout}
+use Rattle.kt_types.specs.Table.{Table}
+use Rattle.kt_mem.specs.declared.memory.Name.TheVariants.{Lit}
+use Rattle.kt_mem.specs.declared.steps.Act.{Act}
+use Rattle.kt_mem.specs.declared.steps.Act.TheVariants as act
+use Rattle.kt_mem.specs.Memory.{Memory, Object}
+use Rattle.kt_heap.specs.Heap as heap
+use Rattle.kt_meaning.specs.Effects as plain
+use Rattle.kt_machine.specs.declared.effects.Outcome.{Outcome}
+use Rattle.kt_machine.specs.declared.effects.Outcome.TheVariants as outcome
+
+pub record Outside : Type 0 where
+  pub heap : heap.State
+  pub input : List ℕ
+  pub output : List ℕ
+
+-- as the meaning has it: the address of a heap object is its heap number
+abbrev pub shown : Outside → plain.Shared
+shown o = record { memory = heap.memory o.heap; input = o.input; output = o.output }
+
+-- a literal is a list of `char`
+abbrev pub HasCharLiterals : Memory → Type 0
+HasCharLiterals m = (v i : ℕ) (o : Object) → m.at (Lit v i) ≡ Some o → AllByRecursion (λ c. c.ty ≡ ty.Char) o.cells
+
+-- what an act allocates has a complete type
+abbrev pub IsComplete : Table → Act → Type 0
+IsComplete types (act.Allocate e n zeros) = is_some (layout types e) ≡ true
+IsComplete types _ = Unit {0}
+
+-- the outcome, which leaves this
+abbrev pub outcome_of : Outcome → plain.Shared → plain.Outcome
+outcome_of (outcome.Replies r) s = plain.Replies r s
+outcome_of outcome.Waits s = plain.Waits
+outcome_of outcome.Elsewhere s = plain.Elsewhere

@@ -1,0 +1,39 @@
+//! What an act does to memory, input and output.
+ghost use Rattle.std.specs.Prelude.{◌≡◌, IfOk, MatchOption, None, Some};
+ghost use Rattle.kt_meaning.specs.Effects.{effect};
+ghost use Rattle.kt_machine.specs.Outside.{IsComplete, outcome_of, shown};
+
+use crate::outside::Outside;
+use kt_mem::{Act, Reply};
+use kt_types::TypeTable;
+use std::alloc::{AllocError, Global};
+
+/// What becomes of an act.
+#[derive(Clone, Copy, PartialEq, Eq, Debug)]
+pub enum Outcome {
+    /// This reply.
+    Replies(Reply),
+    /// The thread waits.
+    Waits,
+    /// It is an act on threads or updates.
+    Elsewhere,
+}
+
+/// What an act of this thread does, where the table has the types of its version. It takes memory for new objects and for
+/// output; where memory runs out, nothing is known of what it touches.
+pub fn effect(
+    alloc: Global,
+    outside: &mut Outside,
+    types: &TypeTable,
+    thread: u8,
+    act: &Act,
+) -> Result<Outcome, AllocError>
+    requires { IsComplete types.now act.now }
+    ensures outcome { IfOk result (λ o. effect types.now thread act.now (shown outside.old) ≡ outcome_of o (shown outside.new)) }
+    ensures kept { IfOk result (λ o. (o ≡ Outcome.Waits → shown outside.new ≡ shown outside.old) × (o ≡ Outcome.Elsewhere → shown outside.new ≡ shown outside.old)) }
+{
+    match act {
+        Act::Tick => Ok(Outcome::Replies(Reply::Done)),
+        _ => Err(AllocError),
+    }
+}

@@ -1,0 +1,12 @@
+//! The machine: it runs the compiled versions of a job turn by turn, updates the program at its points, and tells what the
+//! run has written and how it has ended. So far its one thread is `main`.
+#![tactic(auto)]
+
+mod effects;
+mod globals;
+mod machine;
+mod outside;
+mod shared;
+mod turns;
+
+pub use turns::{Report, take_turns};

@@ -1,0 +1,306 @@
+//! What threads share: the version in force, memory, input and output, the phase of the update and the journal's marks.
+
+ghost use Rattle.std.specs.Prelude.{◌≡◌, is_some};
+ghost use Rattle.kt_world.specs.Job.{version_at};
+ghost use Rattle.kt_world.specs.Plain.{job_of};
+
+use crate::globals::place;
+use crate::outside::Outside;
+use kt_heap::Heap;
+use kt_mem::Value;
+use kt_world::job::Job;
+use kt_world::mark::{Closed, End, Mark, Phase};
+use std::alloc::{AllocError, Global};
+use std::marker::Model;
+
+/// What threads share.
+#[derive(Drop)]
+pub struct Shared {
+    version: u8,
+    outside: Outside,
+    kept: Vec<Option<Value>>,
+    phase: Phase,
+    after: Vec<u32>,
+    requests: u8,
+    turns: u32,
+    marks: Vec<Mark>,
+    ended: Option<End>,
+}
+
+impl Model for Shared {
+    ghost use Rattle.std.specs.Prelude.{◌+◌, ◌<◌, vec_len};
+    ghost use Rattle.kt_machine.specs.Shared as spec;
+
+    ghost Value = { spec.Shared };
+
+    ghost view = { λ s. record {
+      version = s.version;
+      outside = s.outside;
+      kept = s.kept.items;
+      phase = s.phase;
+      after = s.after.items;
+      requests = s.requests;
+      turns = s.turns;
+      marks = s.marks.items;
+      ended = s.ended;
+    } };
+
+    ghost invariant = { λ s. s.requests + vec_len s.after < 256 };
+}
+
+impl Shared {
+    ghost use Rattle.std.specs.Prelude.{◌≡◌, ◌+◌, ◌<◌, ◌^◌, [], ◌∷◌, ◌++◌, None, OnOk, Some, drop, length, vec_len};
+    ghost use Rattle.kt_heap.specs.Heap.{memory};
+    ghost use Rattle.kt_machine.specs.Outside.{HasCharLiterals};
+    ghost use Rattle.kt_machine.specs.Shared.{shared_of};
+    ghost use Rattle.kt_world.specs.Plain.{job_of};
+    ghost use Rattle.kt_world.specs.Turn.{asked, ended_as, request, spent, with_mark};
+    ghost use Rattle.kt_world.specs.Update.{marked, placed};
+
+    /// Before the first turn of a run: this heap and this input, and requests after these numbers of turns.
+    pub fn new(alloc: Global, outside: Outside, after: Vec<u32>) -> Shared
+        requires { vec_len after < 256 }
+        ensures { result ≡ record {
+          version = 0;
+          outside = outside;
+          kept = [];
+          phase = Phase.Run;
+          after = after.items;
+          requests = 0;
+          turns = 0;
+          marks = [];
+          ended = None;
+        } }
+    {
+        Shared {
+            version: 0,
+            outside,
+            kept: Vec::new(alloc),
+            phase: Phase::Run,
+            after,
+            requests: 0,
+            turns: 0,
+            marks: Vec::new(alloc),
+            ended: None,
+        }
+    }
+
+    /// The number of the version in force, counted from 0.
+    pub fn version(&self) -> u8
+        ensures { result ≡ self.now.version }
+    {
+        self.version
+    }
+
+    /// Memory, input and output.
+    pub fn outside(&self) -> &Outside
+        ensures { result.now ≡ self.now.outside }
+    {
+        &self.outside
+    }
+
+    /// Memory, input and output, to be changed.
+    pub fn outside_mut(&mut self) -> &mut Outside
+        ensures { (self.old.outside ≡ result.old) × (self.new ≡ record self.old { outside = result.new }) }
+    {
+        &mut self.outside
+    }
+
+    /// Places all kept values, which are then kept no more.
+    pub fn place_kept(&mut self)
+        ensures { shared_of self.new ≡ record (shared_of self.old) { memory = placed self.old.kept (memory self.old.outside.heap); kept = [] } }
+    {
+        self.outside.place(self.kept.as_slice());
+        self.kept.clear();
+    }
+
+    /// How the run has ended.
+    pub fn ended(&self) -> Option<End>
+        ensures { result ≡ self.now.ended }
+    {
+        self.ended
+    }
+
+    /// Where the run stands between an update's request and its end.
+    pub fn phase(&self) -> Phase
+        ensures { result ≡ self.now.phase }
+    {
+        self.phase
+    }
+
+    /// The turns so far.
+    pub fn turns(&self) -> u32
+        ensures { result ≡ self.now.turns }
+    {
+        self.turns
+    }
+
+    /// The output, and the journal's marks.
+    pub fn into_output_and_marks(self) -> (Vec<u8>, Vec<Mark>)
+        ensures output { result.0.items ≡ self.outside.output }
+        ensures marks { result.1.items ≡ self.marks }
+    {
+        let Shared { outside, marks, .. } = self;
+        (outside.into_output(), marks)
+    }
+
+    fn mark(&mut self, mark: Mark) -> Result<(), AllocError>
+        ensures { OnOk result (shared_of self.new ≡ marked mark (shared_of self.old)) }
+    {
+        self.marks.push(mark)?;
+        Ok(())
+    }
+
+    /// The run ends so.
+    pub fn end(&mut self, how: End)
+        ensures { shared_of self.new ≡ record (shared_of self.old) { ended = Some how } }
+    {
+        self.ended = Some(how);
+    }
+
+    /// An end is marked.
+    pub fn mark_end(&mut self) -> Result<(), AllocError>
+        ensures { OnOk result (shared_of self.new ≡ with_mark self.old.ended (shared_of self.old)) }
+    {
+        match self.ended {
+            None => Ok(()),
+            Some(how) => self.mark(Mark::End {
+                turn: self.turns,
+                how,
+            }),
+        }
+    }
+
+    /// One turn more.
+    pub fn count_turn(&mut self)
+        requires { self.old.turns < 2 ^ 31 }
+        ensures { shared_of self.new ≡ record (shared_of self.old) { turns = self.old.turns + 1 } }
+    {
+        self.turns += 1;
+    }
+
+    /// `main` has come to its point.
+    pub fn mark_main(&mut self) -> Result<(), AllocError>
+        ensures { OnOk result (shared_of self.new ≡ marked (Mark.MainThere self.old.turns self.old.requests) (record (shared_of self.old) { phase = Phase.Others })) }
+    {
+        self.phase = Phase::Others;
+        self.mark(Mark::MainThere {
+            turn: self.turns,
+            k: self.requests,
+        })
+    }
+
+    /// All threads have come to their points.
+    pub fn mark_back(&mut self) -> Result<(), AllocError>
+        ensures { OnOk result (shared_of self.new ≡ marked (Mark.Back self.old.turns self.old.requests) (record (shared_of self.old) { phase = Phase.Run })) }
+    {
+        self.phase = Phase::Run;
+        self.mark(Mark::Back {
+            turn: self.turns,
+            k: self.requests,
+        })
+    }
+
+    /// The closing was refused, since the new version lacks that thread's point.
+    pub fn mark_refused(&mut self, thread: u8) -> Result<(), AllocError>
+        ensures { OnOk result (shared_of self.new ≡ marked (Mark.Close self.old.turns self.old.requests (Closed.Point thread)) (record (shared_of self.old) { phase = Phase.Run })) }
+    {
+        self.phase = Phase::Run;
+        self.mark(Mark::Close {
+            turn: self.turns,
+            k: self.requests,
+            closed: Closed::Point(thread),
+        })
+    }
+
+    /// The update was made: this is the heap with which the new version begins, and these values are kept aside.
+    pub fn mark_updated(
+        &mut self,
+        heap: Heap,
+        kept: Vec<Option<Value>>,
+    ) -> Result<(), AllocError>
+        requires version { self.old.version < 16 }
+        requires literals { HasCharLiterals (memory heap) }
+        ensures { OnOk result (shared_of self.new ≡ marked (Mark.Close self.old.turns self.old.requests (Closed.Ok 0)) (record (shared_of self.old) {
+          version = self.old.version + 1;
+          memory = memory heap;
+          kept = kept.items;
+          phase = Phase.Main;
+        })) }
+    {
+        self.version += 1;
+        self.outside.set_heap(heap);
+        self.kept = kept;
+        self.phase = Phase::Main;
+        self.mark(Mark::Close {
+            turn: self.turns,
+            k: self.requests,
+            closed: Closed::Ok(0),
+        })
+    }
+
+    /// The next request, where no update is under way, a next version exists, and enough turns were made.
+    pub fn ask(&mut self, job: &Job) -> Result<(), AllocError>
+        requires { self.old.version < 16 }
+        ensures { OnOk result (shared_of self.new ≡ asked (job_of job.now) self.old.phase (shared_of self.old)) }
+    {
+        match self.phase {
+            Phase::Run => self.request(job),
+            Phase::Asked | Phase::Main | Phase::Others => Ok(()),
+        }
+    }
+
+    fn request(&mut self, job: &Job) -> Result<(), AllocError>
+        requires { self.old.version < 16 }
+        ensures { OnOk result (shared_of self.new ≡ request (job_of job.now) self.old.after (shared_of self.old)) }
+    {
+        match self.after.first() {
+            Some(turns) if has_version(job, self.version + 1) && *turns <= self.turns =>
+                self.take_request(),
+            _ => Ok(()),
+        }
+    }
+
+    fn take_request(&mut self) -> Result<(), AllocError>
+        requires { 0 < length self.old.after }
+        ensures { OnOk result (shared_of self.new ≡ marked (Mark.Ask self.old.turns (self.old.requests + 1)) (record (shared_of self.old) {
+          phase = Phase.Asked;
+          after = drop 1 self.old.after;
+          requests = self.old.requests + 1;
+        })) }
+    {
+        self.after.remove(0);
+        self.phase = Phase::Asked;
+        self.requests += 1;
+        self.mark(Mark::Ask {
+            turn: self.turns,
+            k: self.requests,
+        })
+    }
+
+    /// The end where nobody may take a turn.
+    pub fn end_stuck(&mut self) -> Result<(), AllocError>
+        ensures { OnOk result (shared_of self.new ≡ ended_as End.Stuck (shared_of self.old)) }
+    {
+        self.ended = Some(End::Stuck);
+        self.mark_end()
+    }
+
+    /// The end by budget, where as many turns were made.
+    pub fn spend(&mut self, job: &Job) -> Result<(), AllocError>
+        ensures { OnOk result (shared_of self.new ≡ spent (job_of job.now) (shared_of self.old)) }
+    {
+        if self.turns == job.budget {
+            self.ended = Some(End::Budget);
+            self.mark_end()
+        } else {
+            Ok(())
+        }
+    }
+}
+
+fn has_version(job: &Job, version: u8) -> bool
+    ensures { result ≡ is_some (version_at (job_of job.now) version) }
+{
+    usize::from(version) < job.versions.len()
+}
