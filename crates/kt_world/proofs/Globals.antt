@@ -1,5 +1,5 @@
 -- The objects of globals: those of a version's first memory, and what acts on memory leave of them.
-use Rattle.std.proofs.Common.{◌≡◌, ℕ, zero, suc, ◌+◌, ◌≤◌, Bool, true, false, cond, if◌then◌else◌, nat_lt, List, [], ◌∷◌, ◌++◌, map, length, slice_get, slice_set, Option, option_map, Some, None, Result, Ok, Err, refl, sym, ◌∙◌, ap, subst}
+use Rattle.std.proofs.Common.{◌≡◌, ℕ, zero, suc, ◌+◌, Bool, true, false, cond, if◌then◌else◌, nat_lt, List, [], ◌∷◌, ◌++◌, map, length, slice_get, slice_set, Option, option_map, Some, None, Result, Ok, Err, refl, sym, ◌∙◌, ap, subst}
 use Rattle.std.proofs.lemmas.List.{map-append}
 use Rattle.std.proofs.lemmas.Option.{none-some}
 use Rattle.kt_types.specs.declared.kinds.Ty.{Ty}
@@ -7,27 +7,26 @@ use Rattle.kt_types.specs.declared.kinds.Ty.TheVariants as ty
 use Rattle.kt_types.specs.Layout.{cells}
 use Rattle.kt_types.specs.Table.{Table}
 use Rattle.kt_mem.specs.declared.memory.Name.{Name}
-use Rattle.kt_mem.specs.declared.memory.Name.TheVariants.{Glob, Lit, Heap}
+use Rattle.kt_mem.specs.declared.memory.Name.TheVariants.{Glob, Heap}
 use Rattle.kt_mem.specs.declared.memory.Value.{Value}
 use Rattle.kt_mem.specs.declared.memory.Value.TheVariants.{Num, Null, Ptr, Free, Held, Undef}
 use Rattle.kt_mem.specs.declared.steps.Act.{Act}
 use Rattle.kt_mem.specs.declared.steps.Act.TheVariants as act
-use Rattle.kt_mem.specs.declared.steps.Reply.TheVariants.{Got}
 use Rattle.kt_mem.specs.declared.steps.Trap.{Trap}
 use Rattle.kt_mem.specs.declared.steps.Trap.TheVariants as trap
 use Rattle.kt_mem.specs.Laws.{Effect, Stores, Allocates, Releases, Locks, Unlocks, Inits, effect_on}
-use Rattle.kt_mem.specs.Memory.{Cell, Object, Memory, put, cell_value, value_in, value_at, load, object_with, with_value, store, lock, unlock, init_mutex, waits, repeated, alloc, release, made, without}
+use Rattle.kt_mem.specs.Memory.{Cell, Object, Memory, put, cell_value, value_in, value_at, load, object_with, with_value, store, lock, unlock, init_mutex, waits, repeated, alloc, release}
 use Rattle.kt_mem.specs.Values.{ty_eq}
 use Rattle.kt_mem.proofs.Changes.{Change, Kept, Wrote, Made, Freed, changed}
 use Rattle.kt_mem.proofs.Names.{ty_eq-true, put-other, put-cases}
 use Rattle.kt_tree.specs.declared.global.GlobalDecl.{GlobalDecl}
 use Rattle.kt_tree.specs.declared.global.Init.{Init}
 use Rattle.kt_tree.specs.Version.{Program}
-use Rattle.kt_meaning.specs.Effects.{Shared, Outcome, Replies, Waits, Elsewhere, pieces_text, traps_with, reads, leaves, makes, next_byte, writes, effect}
+use Rattle.kt_meaning.specs.Effects.{Shared, Outcome, Replies, Waits, Elsewhere, pieces_text, reads, leaves, makes, next_byte, writes, effect}
 use Rattle.kt_world.specs.Job.{types_of}
 use Rattle.kt_world.specs.Update.{initial_cell, global_object, first_memory, or_same, placed_one, placed_from, placed}
 use Rattle.kt_world.specs.Turn.{memory_if}
-use Rattle.kt_world.specs.Typed.{globals_of, IsShapedAs, HasGlobals}
+use Rattle.kt_world.specs.Typed.{IsShapedAs, HasGlobals}
 
 -- ---- shapes
 
