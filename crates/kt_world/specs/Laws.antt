@@ -1,7 +1,7 @@
 -- Laws of lists of turns: a longer list goes on from the world of the shorter one.
 use Rattle.std.specs.Prelude.{◌≡◌, ◌↔◌, ℕ, List, [], ◌∷◌, ◌++◌, Option, None, Some, true, ◌&&◌, not, slice_get, refl}
 use Rattle.std.proofs.Common.{subst}
-use Rattle.std.proofs.lemmas.Bool.{and_parts, eqb-true}
+use Rattle.std.proofs.lemmas.Bool.{false≢true, and_parts, eqb-true}
 use Rattle.kt_world.specs.declared.mark.Phase.TheVariants.{Main}
 use Rattle.kt_world.specs.Job.{Job}
 use Rattle.kt_world.specs.World.{Engine, Shared, Thread, World}
@@ -38,7 +38,7 @@ module _ {X : Type 0} (e : Engine X) (job : Job) where
 pub enabled-parts : {X : Type 0} (e : Engine X) (s : Shared) (t : ℕ) (o : Option (Thread X)) → enabled_if e s t o ≡ true →
     (th : Thread X) × (o ≡ Some th) × (is_live th.standing ≡ true) × (is_turnable s.phase t ≡ true)
     × (not (is_waiting s.memory t (e.step s.version th.state)) ≡ true)
-enabled-parts e s t None may = absurd cc
+enabled-parts e s t None may = absurd (false≢true may)
 enabled-parts e s t (Some th) may =
     let waits = not (is_waiting s.memory t (e.step s.version th.state)) in
     let outer = and_parts (is_live th.standing && is_turnable s.phase t) waits may in

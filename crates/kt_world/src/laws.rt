@@ -15,7 +15,7 @@ use crate::mark::Phase;
 ///
 /// In each world each global of the version in force has its object, and there is one thread. Where the job's versions
 /// are programs and its input is bytes, each cell and each kept value is of its type, and the thread is one of the
-/// version in force.
+/// version in force, unless it has ended.
 pub fn world_law(job: &Job, turns: &[u8])
     ensures followed { let j = job_of job.now in (t : ℕ) →
         AreTurnsOf j (turns.now ++ t ∷ []) ↔ (AreTurnsOf j turns.now × MayTurn (tree_engine j) (world j turns.now) t) }
