@@ -112,7 +112,7 @@ module _ (p : Program) (h : IsProgram p) where
   main-named = get-map (λ f. f.name) p.functions h.main.0 h.main.1 h.main.2 ∙ ap Some h.main.3.0
 
   -- its place is that of its name
-  main-place : (o : Option ℕ) → place_of (codes "main") (function_names p) ≡ o → o ≡ Some h.main.0
+  pub main-place : (o : Option ℕ) → place_of (codes "main") (function_names p) ≡ o → o ≡ Some h.main.0
   main-place None e =
       absurd (no-place (pointwise ◌==◌ (codes "main")) (function_names p) h.main.0 (codes "main") main-named
       ((bytes_decides (codes "main") (codes "main")).1 refl) e)
