@@ -27,7 +27,7 @@ while read -r kind half; do
 done <<'KINDS'
 locals 4400
 globals 4400
-functions 4600
+functions 3900
 scopes 6000
-structs 2700
+structs 2200
 KINDS
