@@ -3,6 +3,9 @@
 #![tactic(auto)]
 
 mod effects;
+mod entry;
+mod first_heap;
+mod first_objects;
 mod globals;
 mod machine;
 mod outside;

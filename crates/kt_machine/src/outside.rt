@@ -29,7 +29,7 @@ impl Model for Outside {
 }
 
 impl Outside {
-    ghost use Rattle.std.specs.Prelude.{◌≡◌, []};
+    ghost use Rattle.std.specs.Prelude.{◌≡◌, ◌≤◌, [], length};
     ghost use Rattle.kt_heap.specs.Heap.{memory};
     ghost use Rattle.kt_machine.specs.Outside.{shown, HasCharLiterals};
     ghost use Rattle.kt_world.specs.Update.{placed};
@@ -64,6 +64,7 @@ impl Outside {
 
     /// Stores the kept values, each into the global of its number.
     pub fn place(&mut self, kept: &[Option<Value>])
+        requires { length kept.now ≤ 4294967296 }
         ensures { shown self.new ≡ record (shown self.old) { memory = placed kept.now (memory self.old.heap) } }
     {
         place(&mut self.heap, kept);

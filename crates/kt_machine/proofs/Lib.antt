@@ -1,0 +1,2 @@
+pub mod FirstMemory
+pub mod Placed
