@@ -4,6 +4,9 @@
 
 mod allocate;
 mod effects;
+mod entry;
+mod first_heap;
+mod first_objects;
 mod globals;
 mod machine;
 mod mutex;

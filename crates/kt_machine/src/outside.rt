@@ -36,7 +36,7 @@ impl Model for Outside {
 
 impl Outside {
     ghost use Rattle.std.specs.Option.{is_some};
-    ghost use Rattle.std.specs.Prelude.{◌≡◌, ◌≢◌, [], true, IfOk, if◌then◌else◌};
+    ghost use Rattle.std.specs.Prelude.{◌≡◌, ◌≢◌, ◌≤◌, [], true, length, IfOk, if◌then◌else◌};
     ghost use Rattle.kt_heap.specs.Heap.{memory};
     ghost use Rattle.kt_meaning.specs.Effects as plain;
     ghost use Rattle.kt_mem.specs.Memory as mem;
@@ -74,6 +74,7 @@ impl Outside {
 
     /// Stores the kept values, each into the global of its number.
     pub fn place(&mut self, kept: &[Option<Value>])
+        requires { length kept.now ≤ 4294967296 }
         ensures { shown self.new ≡ record (shown self.old) { memory = placed kept.now (memory self.old.heap) } }
     {
         place(&mut self.heap, kept);
