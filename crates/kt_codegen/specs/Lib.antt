@@ -1,5 +1,4 @@
-pub mod Machine
-pub mod MachineSettling
-pub mod Code
-pub mod Heads
-pub mod HeadLaws
+pub mod Emitting
+pub mod StatementActs
+pub mod StatementCode
+pub mod VersionCode

@@ -1,7 +1,13 @@
-mod Acting
-mod Closings
-mod Codes
-mod Heads
-mod Starting
-mod Trying
-mod Turning
+pub mod Acting
+pub mod Allocations
+pub mod Closings
+pub mod Codes
+pub mod FirstMemory
+pub mod Heads
+pub mod Lists
+pub mod Memory
+pub mod Placed
+pub mod Printing
+pub mod Starting
+pub mod Trying
+pub mod Turning

@@ -5,8 +5,8 @@ use Rattle.kt_small.specs.Steps.{DoesSameActs}
 use Rattle.kt_small.specs.Thread.{entry, settle}
 use Rattle.kt_small.specs.declared.tree.Program.{Program}
 use Rattle.kt_small.specs.Tree.{Version, version_of}
-use Rattle.kt_codegen.specs.declared.instr.Instr.{Instr}
-use Rattle.kt_codegen.specs.Machine.{machine_settle, start}
+use Rattle.kt_small_codegen.specs.declared.instr.Instr.{Instr}
+use Rattle.kt_small_codegen.specs.Machine.{machine_settle, start}
 use Rattle.kt_play.specs.Acts.{DoTheSameActs}
 
 more : (vs : List Version) (v : Version) (codes : List (List Instr)) (code : List Instr) → length codes ≡ length vs → DoTheSameActs vs codes →

@@ -5,8 +5,8 @@ use Rattle.std.proofs.lemmas.Bool.Decides.{eqb_tells}
 use Rattle.kt_small.specs.Steps.{DoesSameActs}
 use Rattle.kt_small.specs.Thread as tree
 use Rattle.kt_small.specs.Tree.{Version}
-use Rattle.kt_codegen.specs.declared.instr.Instr.{Instr}
-use Rattle.kt_codegen.specs.Machine.{State, machine_settle, start}
+use Rattle.kt_small_codegen.specs.declared.instr.Instr.{Instr}
+use Rattle.kt_small_codegen.specs.Machine.{State, machine_settle, start}
 use Rattle.kt_small_world.specs.declared.mark.End.{End}
 use Rattle.kt_small_world.specs.declared.mark.Mark.{Mark}
 use Rattle.kt_small_world.specs.declared.mark.Phase.{Phase}

@@ -3,11 +3,11 @@ use Rattle.std.specs.Prelude.{◌≡◌, ℕ, zero, suc, List, [], ◌∷◌, So
 use Rattle.std.proofs.Common.{sym, subst, ap, ◌∙◌}
 use Rattle.kt_small.specs.declared.acts.Mode.{Mode}
 use Rattle.kt_small.specs.Steps.{Step, Quiet, Acts, Traps, Ends, IsHead, SameHead, AgreeFor, DoesSameActs}
-use Rattle.kt_codegen.specs.declared.instr.Instr.{Instr}
-use Rattle.kt_codegen.specs.declared.run.Head.{Head}
-use Rattle.kt_codegen.specs.Heads.{head_of}
-use Rattle.kt_codegen.specs.Machine.{State, machine_step, machine_settle}
-use Rattle.kt_codegen.specs.MachineSettling.{machine_settle-acts, machine_settle-traps, machine_settle-ends, machine_settle-settles}
+use Rattle.kt_small_codegen.specs.declared.instr.Instr.{Instr}
+use Rattle.kt_small_codegen.specs.declared.run.Head.{Head}
+use Rattle.kt_small_codegen.specs.Heads.{head_of}
+use Rattle.kt_small_codegen.specs.Machine.{State, machine_step, machine_settle}
+use Rattle.kt_small_codegen.specs.MachineSettling.{machine_settle-acts, machine_settle-traps, machine_settle-ends, machine_settle-settles}
 use Rattle.kt_small_world.specs.World.{Shared, Standing, World}
 use Rattle.kt_small_world.specs.Same.{AreSameEngines, DoesSameActs-refl, turn-same}
 use Rattle.kt_small_world.specs.Turn.{act, counted, after_act, turn}

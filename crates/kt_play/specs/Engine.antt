@@ -2,11 +2,11 @@
 use Rattle.std.specs.Prelude.{◌≡◌, ℕ, ◌+◌, List, [], ◌∷◌, Bool, true, false, unwrap_or, slice_get, Option, Some, None}
 use Rattle.kt_small.specs.declared.acts.Mode.TheVariants.{Updating}
 use Rattle.kt_small.specs.Tree.{Version}
-use Rattle.kt_codegen.specs.declared.instr.Instr.{Instr}
-use Rattle.kt_codegen.specs.declared.run.Head.{Head}
-use Rattle.kt_codegen.specs.declared.run.Head.TheVariants.{Act, Trap, End}
-use Rattle.kt_codegen.specs.Heads.{head_of}
-use Rattle.kt_codegen.specs.Machine.{State, start, machine_step, machine_settle}
+use Rattle.kt_small_codegen.specs.declared.instr.Instr.{Instr}
+use Rattle.kt_small_codegen.specs.declared.run.Head.{Head}
+use Rattle.kt_small_codegen.specs.declared.run.Head.TheVariants.{Act, Trap, End}
+use Rattle.kt_small_codegen.specs.Heads.{head_of}
+use Rattle.kt_small_codegen.specs.Machine.{State, start, machine_step, machine_settle}
 use Rattle.kt_small_world.specs.declared.mark.Closed.TheVariants.{Ok, Point}
 use Rattle.kt_small_world.specs.declared.mark.Mark.TheVariants.{Close}
 use Rattle.kt_small_world.specs.declared.mark.Phase.TheVariants.{Run, Main}

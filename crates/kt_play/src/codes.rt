@@ -4,8 +4,8 @@ ghost use Rattle.std.specs.Prelude.{◌≡◌, length, map, IfOk};
 ghost use Rattle.kt_small.specs.Tree.{version_of};
 ghost use Rattle.kt_play.specs.Acts.{DoTheSameActs};
 
-use kt_codegen::code::Code;
-use kt_codegen::generate::compile;
+use kt_small_codegen::code::Code;
+use kt_small_codegen::generate::compile;
 use kt_small::tree::Program;
 use std::alloc::{AllocError, Global};
 

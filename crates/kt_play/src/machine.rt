@@ -10,8 +10,8 @@ ghost use Rattle.kt_play.specs.Engine.{code_at, point_of_head};
 
 use crate::effects::{first_values, kept_values, new_point};
 use crate::shared::Shared;
-use kt_codegen::code::Code;
-use kt_codegen::run::{Head, Thread};
+use kt_small_codegen::code::Code;
+use kt_small_codegen::run::{Head, Thread};
 use kt_small::acts::{Act, Mode, Reply};
 use kt_small::tree::Program;
 use kt_small_world::job::Job;
@@ -37,9 +37,9 @@ fn code_in_force(codes: &[Code], version: u32) -> &Code
 impl Machine {
     ghost use Rattle.std.specs.Prelude.{◌≡◌, ◌<◌, ◌^◌, ◌∷◌, [], List, Some, true, false, length, IfOk, OnOk};
     ghost use Rattle.kt_small.specs.Tree.{version_of};
-    ghost use Rattle.kt_codegen.specs.declared.instr.Instr.{Instr};
-    ghost use Rattle.kt_codegen.specs.Heads.{head_of};
-    ghost use Rattle.kt_codegen.specs.Machine.{machine_step};
+    ghost use Rattle.kt_small_codegen.specs.declared.instr.Instr.{Instr};
+    ghost use Rattle.kt_small_codegen.specs.Heads.{head_of};
+    ghost use Rattle.kt_small_codegen.specs.Machine.{machine_step};
     ghost use Rattle.kt_small_world.specs.Plain.{job_of};
     ghost use Rattle.kt_small_world.specs.Update as plain;
     ghost use Rattle.kt_small_world.specs.Turn as plain_turn;

@@ -6,7 +6,7 @@ ghost use Rattle.kt_play.specs.Acts.{DoTheSameActs};
 ghost use Rattle.kt_play.specs.Report.{HasRun};
 
 use crate::machine::Machine;
-use kt_codegen::code::Code;
+use kt_small_codegen::code::Code;
 use kt_small_world::job::Job;
 use kt_small_world::mark::{End, Mark};
 use std::alloc::{AllocError, Global};

@@ -1,4 +1,0 @@
-pub mod Emitting
-pub mod StatementActs
-pub mod StatementCode
-pub mod VersionCode

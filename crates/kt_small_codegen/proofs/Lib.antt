@@ -1,0 +1,4 @@
+pub mod Agrees
+pub mod Patch
+pub mod Rows
+pub mod Stands
