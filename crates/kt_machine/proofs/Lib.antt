@@ -1,2 +1,3 @@
 pub mod FirstMemory
+pub mod MainEntry
 pub mod Placed
