@@ -48,7 +48,12 @@ pub entry-is : (v : ℕ) (mode : Mode) (c : Code) (o : Option (ℕ × Function))
     o ≡ Some (g, f) → slice_get c.entries g ≡ at → entry_of v mode c o ≡ entry_at v mode g f at
 entry-is v mode c o g f at found there = ap (entry_of v mode c) found ∙ ap (entry_at v mode g f) there
 
--- what equals a state that fits does too
+-- a state in a result that is this one is also what this one is
+pub ok-is : {E : Type 0} (q s : Private) (r : Result Private E) → IfOk r (λ p. p ≡ q) → q ≡ s → IfOk r (λ p. p ≡ s)
+ok-is q s (Ok p) is e = is ∙ e
+ok-is q s (Err x) is e = tt
+
+-- and fits where this one does
 pub ok-fits : {E : Type 0} (c : Code) (q : Private) (r : Result Private E) → IfOk r (λ p. p ≡ q) → Fits c q → IfOk r (λ p. Fits c p)
 ok-fits c q (Ok p) is h = subst (Fits c) (sym is) h
-ok-fits c q (Err e) is h = tt
+ok-fits c q (Err x) is h = tt
