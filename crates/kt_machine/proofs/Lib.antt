@@ -5,6 +5,7 @@ pub mod Codes
 pub mod FirstMemory
 pub mod Heads
 pub mod Lists
+pub mod MainEntry
 pub mod Memory
 pub mod Placed
 pub mod Printing
