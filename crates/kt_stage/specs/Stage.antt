@@ -1,4 +1,4 @@
--- Which versions run so far: those in which there is one thread; and which of them may be updated.
+-- Which requests a tree asks, and which versions run so far: those with one thread; and which of them may be updated.
 use Rattle.std.specs.Prelude.{Bool, true, false, not, ◌&&◌, ◌||◌, Option, None, Some}
 use Rattle.std.specs.List.{list_all, list_any}
 use Rattle.kt_tree.specs.declared.expr.Request.{Request}
@@ -7,7 +7,7 @@ use Rattle.kt_tree.specs.Tree.{Expression, Constant', LocalRead, LocalSet, Local
 use Rattle.kt_tree.specs.Version.{Program}
 use Rattle.kt_world.specs.Update.{is_int}
 
--- some request in the expression is one of these
+-- some request in the expression is one of these; what `x op= e` does with memory is no request
 abbrev mutual
   pub expression_asks : (Request → Bool) → Expression → Bool
   expression_asks these (Constant' c t) = false
@@ -54,7 +54,7 @@ function_asks these f = statement_asks these f.body
 abbrev pub program_asks : (Request → Bool) → Program → Bool
 program_asks these p = list_any (function_asks these) p.functions
 
--- what only a program of several threads has need of: another thread, or a lock
+-- a request for another thread, or for a lock
 abbrev pub is_threaded : Request → Bool
 is_threaded (request.Create f) = true
 is_threaded request.Join = true
@@ -63,11 +63,11 @@ is_threaded request.Unlock = true
 is_threaded request.InitMutex = true
 is_threaded _ = false
 
--- the program has one thread, and takes no lock
+-- the program asks for no other thread and no lock
 abbrev pub runs_alone : Program → Bool
 runs_alone p = not (program_asks is_threaded p)
 
--- all that the program has is kept over an update: its globals are of type `int` and no arrays, and no function keeps locals
+-- each global is one that an update keeps, of type `int` and no array, and no function is written with `E_NOTELOCALS`
 abbrev pub keeps_only_ints : Program → Bool
 keeps_only_ints p = list_all is_int p.globals && not (list_any (λ f. f.noted) p.functions)
 
