@@ -2,10 +2,16 @@
 //! run has written and how it has ended. So far its one thread is `main`.
 #![tactic(auto)]
 
+mod allocate;
 mod effects;
+mod entry;
+mod first_heap;
+mod first_objects;
 mod globals;
 mod machine;
+mod mutex;
 mod outside;
+mod print;
 mod shared;
 mod turns;
 

@@ -1,0 +1,6 @@
+pub mod Allocations
+pub mod FirstMemory
+pub mod Lists
+pub mod Memory
+pub mod Placed
+pub mod Printing
