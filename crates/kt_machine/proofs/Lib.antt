@@ -1,3 +1,9 @@
+mod Acting
+mod Closings
+mod Codes
+mod Heads
+mod Starting
+mod Turning
 pub mod Allocations
 pub mod FirstMemory
 pub mod Lists
