@@ -4,4 +4,9 @@ pub mod Update
 pub mod Turn
 pub mod Plain
 pub mod Laws
+pub mod SharedLaws
+pub mod Kept
 pub mod Typed
+pub mod TypedThreads
+pub mod TypedMemories
+pub mod TypedWorlds

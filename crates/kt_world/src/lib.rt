@@ -2,4 +2,5 @@
 #![tactic(auto)]
 
 pub mod job;
+pub mod laws;
 pub mod mark;
