@@ -1,5 +1,5 @@
 -- What acts on memory, input and output touch, as the machine keeps it: the heap, the rest of the input, the output.
-use Rattle.std.specs.Prelude.{◌≡◌, ℕ, List, Some}
+use Rattle.std.specs.Prelude.{◌≡◌, true, ℕ, List, Some}
 use Rattle.std.specs.List.{AllByRecursion}
 use Rattle.std.specs.Option.{is_some}
 use Rattle.kt_types.specs.declared.kinds.Ty.TheVariants as ty

@@ -4,6 +4,7 @@
 
 mod effects;
 mod globals;
+mod laws;
 mod machine;
 mod outside;
 mod shared;

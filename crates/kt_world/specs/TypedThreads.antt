@@ -114,7 +114,7 @@ module _ (p : Program) (h : IsProgram p) where
   main-named = get-map (λ f. f.name) p.functions h.main.0 h.main.1 h.main.2 ∙ ap Some h.main.3.0
 
   -- its place is that of its name
-  main-place : (o : Option ℕ) → place_of (codes "main") (function_names p) ≡ o → o ≡ Some h.main.0
+  pub main-place : (o : Option ℕ) → place_of (codes "main") (function_names p) ≡ o → o ≡ Some h.main.0
   main-place None e =
       absurd (no-place (pointwise ◌==◌ (codes "main")) (function_names p) h.main.0 (codes "main") main-named
       ((bytes_decides (codes "main") (codes "main")).1 refl) e)
@@ -164,5 +164,5 @@ module _ (old new : Program) where
   point-mode None = tt
   point-mode (Some q) = name-mode (slice_get old.points.names q)
 
-  pub next-mode : (s : Step tree.Thread) → IsMode new (updating_from (next_point old new s))
+  pub next-mode : {X : Type 0} (s : Step X) → IsMode new (updating_from (next_point old new s))
   next-mode s = point-mode (point_of s)

@@ -1,0 +1,3 @@
+pub mod SameThreads
+pub mod SameTurns
+pub mod SameUpdates
