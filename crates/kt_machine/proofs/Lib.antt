@@ -1,3 +1,6 @@
+pub mod SameEngines
+pub mod SameRuns
+pub mod SameStates
 pub mod SameThreads
 pub mod SameTurns
 pub mod SameUpdates
