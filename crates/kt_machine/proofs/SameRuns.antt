@@ -116,3 +116,36 @@ complete-in v (Some p) program x i j h same last is =
 
 first-of : {X : Type 0} (P : X → Type 0) (x : X) (xs : List X) → All P (x ∷ xs) → P x
 first-of P x xs all = all 0 x (omega arith)
+
+module _ (job : Job) (codes : List Pair) (are : AreCodesOf job codes) (typed : IsTypedJob job) where
+  -- its thread lives, so it stands where the tree's one does
+  lives-complete : (v : ℕ) (th : Thread tree.Thread) (b : Thread Private) (h : Head) → IsSameThread (IsSameBy v (slice_get codes v)) th b →
+      IsTypedThread (version_at job v) th.standing th.state → b.standing ≡ Live → IsLast (code_step (slice_get codes v) b.state) →
+      head_of (code_step (slice_get codes v) b.state) ≡ Some h → IsCompleteHead (types_at job v) h
+  lives-complete v th b h same of_version live last is =
+      let standing : th.standing ≡ Live = same.standing ∙ live in
+      let x = th.state in
+      let y = b.state in
+      let thread : IsThreadOf (version_at job v) x = subst (λ s. IsTypedThread (version_at job v) s x) standing of_version in
+      let state : IsSameBy v (slice_get codes v) Live x y = subst (λ s. IsSameBy v (slice_get codes v) s x y) standing same.state in
+      complete-in v (version_at job v) (is-program job codes are typed v) x thread (code_step (slice_get codes v) y) h
+      ((engines-same job codes are typed).heads v x y state) last is
+
+  alone-complete : (v : ℕ) (l : List (Thread tree.Thread)) (b : Thread Private) (h : Head) → AreSameThreads (IsSameBy v (slice_get codes v)) l (b ∷ []) →
+      All (λ (th : Thread tree.Thread). IsTypedThread (version_at job v) th.standing th.state) l → b.standing ≡ Live →
+      IsLast (code_step (slice_get codes v) b.state) → head_of (code_step (slice_get codes v) b.state) ≡ Some h → IsCompleteHead (types_at job v) h
+  alone-complete v [] b h same all live last is = absurd same
+  alone-complete v (th ∷ rest) b h same all live last is =
+      lives-complete v th b h same.0 (first-of (λ (th : Thread tree.Thread). IsTypedThread (version_at job v) th.standing th.state) th rest all) live last is
+
+  -- what the turns of a machine ask of it, where its thread lives and stands at its head
+  pub ready : (w : World tree.Thread) (m : Machine) → IsSameWorld codes w (world_of m) → IsTypedWorld job w → (thread_of m).standing ≡ Live →
+      ((a : Act) → code_step (slice_get codes m.shared.version) m.private ≡ Ends a → takes_reply a ≡ false) →
+      head_of (code_step (slice_get codes m.shared.version) m.private) ≡ Some m.head → IsReady job m
+  ready w m h world live last is = record {
+    shared = subst (λ (s : Shared). IsShared (outside_of s)) h.shared world.shared;
+    complete = alone-complete m.shared.version w.threads (thread_of m) m.head
+        (subst (λ (s : Shared). AreSameThreads (IsSameBy s.version (slice_get codes s.version)) w.threads (thread_of m ∷ [])) h.shared h.threads)
+        (subst (λ (s : Shared). All (λ (th : Thread tree.Thread). IsTypedThread (version_at job s.version) th.standing th.state) w.threads) h.shared world.threads)
+        live (last-by (code_step (slice_get codes m.shared.version) m.private) last) is;
+  }
