@@ -1,5 +1,5 @@
 -- The first world is well formed, and each turn leaves a world well formed.
-use Rattle.std.specs.Prelude.{◌≡◌, ℕ, ◌+◌, ◌<◌, ◌≤◌, length, slice_get, slice_set, refl}
+use Rattle.std.specs.Prelude.{◌≡◌, ℕ, ◌+◌, ◌<◌, ◌≤◌, length, slice_set, refl}
 use Rattle.std.proofs.Common.{arith, sym, subst, ap, ◌∙◌}
 use Rattle.std.proofs.lemmas.List.{length-set, length-map}
 use Rattle.std.proofs.lemmas.Option.{slice_get_within}
@@ -19,8 +19,8 @@ use Rattle.kt_world.specs.declared.mark.Phase.{Phase}
 use Rattle.kt_world.specs.declared.mark.Phase.TheVariants.{Run, Asked, Main, Others}
 use Rattle.kt_world.specs.Job.{Job, version_at, types_at}
 use Rattle.kt_world.specs.World.{Engine, Parked, Ended, Shared, Thread, World, outside_of, with_outside}
-use Rattle.kt_world.specs.Update.{kept_value, kept_values, placed, first_memory, restarted, let_go, updated, refused}
-use Rattle.kt_world.specs.Turn.{answered, at_point, migrated, elsewhere, on_outcome, ends, effect, memory_if, start, first_world}
+use Rattle.kt_world.specs.Update.{kept_value, kept_values, first_memory, restarted, let_go, updated, refused}
+use Rattle.kt_world.specs.Turn.{answered, at_point, migrated, elsewhere, on_outcome, ends, effect, start, first_world}
 use Rattle.kt_world.specs.SharedLaws.{KeepsOutside}
 use Rattle.kt_world.specs.Kept.{IsBetween, IsKept, first_world-keeps}
 use Rattle.kt_world.specs.Typed.{globals_of, HasGlobals, IsWellFormed}

@@ -1,5 +1,5 @@
 -- A job: the versions of a program, when updates are asked for, how many turns a run may take, and the input.
-use Rattle.std.specs.Prelude.{ℕ, List, [], Option, None, Some, slice_get}
+use Rattle.std.specs.Prelude.{ℕ, List, Option, None, Some, slice_get}
 use Rattle.kt_types.specs.Table.{Table, scalar_table}
 use Rattle.kt_tree.specs.Version.{Program}
 

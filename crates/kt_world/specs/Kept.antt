@@ -8,7 +8,7 @@ use Rattle.kt_world.specs.declared.mark.Phase.TheVariants.{Run, Asked, Main, Oth
 use Rattle.kt_world.specs.Job.{Job, version_at, types_at}
 use Rattle.kt_world.specs.World.{Engine, Shared, Thread, World}
 use Rattle.kt_world.specs.Update.{lost_point, updated, refused, decided, closed_between, closing}
-use Rattle.kt_world.specs.Turn.{effect, act_of, acted, counted, any_enabled, ongoing, on_shared, with_mark, end_marked, ended_as, main_is_normal, all_normal, all_parked, main_there, all_back, closed_up, asked, stuck, spent, before_turn, after_act, turn, start, first_world, world_from, MayTurn, MayTurnAll}
+use Rattle.kt_world.specs.Turn.{effect, act_of, acted, any_enabled, ongoing, on_shared, with_mark, ended_as, main_is_normal, all_normal, all_parked, main_there, all_back, closed_up, asked, stuck, spent, before_turn, after_act, turn, start, first_world, world_from, MayTurn, MayTurnAll}
 use Rattle.kt_world.specs.SharedLaws.{KeepsOutside, with_mark-keeps, asked-keeps, spent-keeps}
 
 -- the versions between which the worlds of an update or a refusal lie; no thread lives that isn't parked

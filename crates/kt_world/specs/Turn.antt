@@ -3,13 +3,13 @@
 -- is tried.
 --
 -- So far `main` is the only thread: no other one can be made or joined.
-use Rattle.std.specs.Prelude.{◌≡◌, ℕ, ◌+◌, ◌==◌, nat_le, ℤ, List, [], ◌∷◌, ◌++◌, Option, Some, None, is_none, is_some, Bool, true, false, ◌&&◌, ◌||◌, not, if◌then◌else◌, slice_get, slice_set, codes}
+use Rattle.std.specs.Prelude.{◌≡◌, ℕ, ◌+◌, ◌==◌, nat_le, List, [], ◌∷◌, Option, Some, None, is_none, is_some, Bool, true, false, ◌&&◌, ◌||◌, not, if◌then◌else◌, slice_get, slice_set, codes}
 use Rattle.std.specs.List.{list_all}
 use Rattle.kt_types.specs.Table.{Table}
 use Rattle.kt_mem.specs.declared.steps.Act.{Act}
 use Rattle.kt_mem.specs.declared.steps.Act.TheVariants as act
 use Rattle.kt_mem.specs.declared.steps.Reply.{Reply}
-use Rattle.kt_mem.specs.declared.steps.Reply.TheVariants.{Done, Got, Trapped}
+use Rattle.kt_mem.specs.declared.steps.Reply.TheVariants.{Done, Trapped}
 use Rattle.kt_mem.specs.declared.steps.Trap.TheVariants as trap
 use Rattle.kt_mem.specs.declared.thread.Mode.{Mode}
 use Rattle.kt_mem.specs.declared.thread.Mode.TheVariants.{Normal, Updating}

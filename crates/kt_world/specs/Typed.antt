@@ -1,5 +1,5 @@
 -- What holds of each world of a job.
-use Rattle.std.specs.Prelude.{◌≡◌, ◌≢◌, ◌↔◌, ℕ, ◌<◌, ◌≤◌, IsTrue, List, [], ◌∷◌, length, map, Option, Some, None, slice_get}
+use Rattle.std.specs.Prelude.{◌≡◌, ℕ, ◌<◌, ◌≤◌, IsTrue, List, [], length, map, Option, Some, None, slice_get}
 use Rattle.std.specs.List.{All, AllByRecursion}
 use Rattle.kt_types.specs.declared.kinds.Ty.TheVariants as ty
 use Rattle.kt_mem.specs.declared.memory.Name.TheVariants.{Glob}

@@ -1,8 +1,8 @@
 -- Memories stay typed: those with which versions begin, and those in which kept values are placed. Kept values are of `int`.
-use Rattle.std.specs.Prelude.{◌≡◌, ◌⊎◌, IsTrue, ℕ, zero, suc, ◌+◌, ◌-◌, ◌<◌, ◌≤◌, ◌^◌, ◌==◌, ℤ, pos, negsuc, nat_lt, cond, Bool, true, false, List, [], ◌∷◌, ◌++◌, length, map, slice_get, Option, Some, None, option_and_then, Result, Ok, Err, if◌then◌else◌, slice_index_or, refl}
+use Rattle.std.specs.Prelude.{◌≡◌, ◌⊎◌, IsTrue, ℕ, zero, suc, ◌+◌, ◌-◌, ◌<◌, ◌^◌, ◌==◌, ℤ, pos, negsuc, nat_lt, Bool, true, false, List, [], ◌∷◌, ◌++◌, map, slice_get, Option, Some, None, option_and_then, Result, Ok, Err, if◌then◌else◌, slice_index_or, refl}
 use Rattle.std.specs.Option.{option_map}
 use Rattle.std.specs.List.{All, AllByRecursion}
-use Rattle.std.proofs.Common.{sym, ap, subst, ◌∙◌, arith, inl, inr}
+use Rattle.std.proofs.Common.{sym, subst, ◌∙◌, arith, inl, inr}
 use Rattle.std.proofs.lemmas.Bool.{false≢true, lt-ltb}
 use Rattle.std.proofs.lemmas.Bool.Decides.{nat_tests}
 use Rattle.std.proofs.lemmas.List.Elements.{All-head, All-tail, All-map}
@@ -20,7 +20,7 @@ use Rattle.kt_mem.specs.declared.memory.Value.TheVariants.{Num, Ptr, Undef}
 use Rattle.kt_mem.specs.declared.steps.Act.TheVariants as act
 use Rattle.kt_mem.specs.declared.steps.Trap.{Trap}
 use Rattle.kt_mem.specs.Arithmetic.{fits}
-use Rattle.kt_mem.specs.Memory.{Cell, Object, Memory, load, store, repeated, zero_value}
+use Rattle.kt_mem.specs.Memory.{Cell, Object, Memory, load, store, repeated}
 use Rattle.kt_tree.specs.declared.global.GlobalDecl.{GlobalDecl}
 use Rattle.kt_tree.specs.declared.global.Init.{Init}
 use Rattle.kt_tree.specs.declared.global.Init.TheVariants as init
@@ -34,7 +34,7 @@ use Rattle.kt_meaning.specs.Effects.{reads, leaves}
 use Rattle.kt_meaning.specs.Laws.{IsTyped, IsShared, IsOutcomeOf, LeavesShared}
 use Rattle.kt_meaning.specs.Values.{is_of}
 use Rattle.kt_world.specs.Typed.{IsIntIfSome}
-use Rattle.kt_world.specs.Update.{initial_cell, global_object, char_value, char_cell, literal_object, first_object, first_memory, old_global, value_if, value_of_global, kept_value, kept_values, or_same, placed_one, placed_from, placed}
+use Rattle.kt_world.specs.Update.{initial_cell, global_object, char_cell, literal_object, first_object, first_memory, old_global, value_if, value_of_global, kept_value, kept_values, or_same, placed_one, placed_from, placed}
 
 -- ---- cells
 

@@ -1,5 +1,5 @@
 -- Threads of the tree stay threads of their version, settled, from the entry of `main` on.
-use Rattle.std.specs.Prelude.{◌≡◌, ◌⊎◌, ℕ, zero, suc, ◌+◌, ◌<◌, ◌≤◌, ◌==◌, nat_lt, cond, min, Bool, true, false, not, List, [], ◌∷◌, ◌++◌, length, map, take, codes, slice_get, get_or, Option, Some, None, option_and_then, refl}
+use Rattle.std.specs.Prelude.{◌≡◌, ◌⊎◌, ℕ, zero, suc, ◌+◌, ◌<◌, ◌==◌, nat_lt, cond, Bool, true, false, not, List, [], ◌∷◌, length, map, take, codes, slice_get, get_or, Option, Some, None, option_and_then, refl}
 use Rattle.std.proofs.Common.{sym, ap, subst, ◌∙◌, arith, inl, inr}
 use Rattle.std.specs.Cmp.Lexicographic.{pointwise, bytes_decides}
 use Rattle.std.specs.List.{position, position_or_len}
@@ -8,16 +8,14 @@ use Rattle.std.proofs.lemmas.Bool.Decides.{nat_tests}
 use Rattle.std.proofs.lemmas.List.{length-take}
 use Rattle.std.proofs.lemmas.List.Quantifiers.{position-Some}
 use Rattle.std.proofs.lemmas.Option.{none-some, same_Some, slice_get-get_or}
-use Rattle.kt_mem.specs.declared.steps.Act.TheVariants as act
 use Rattle.kt_mem.specs.declared.steps.Reply.{Reply}
 use Rattle.kt_mem.specs.declared.steps.Reply.TheVariants.{Done, Got, Trapped}
 use Rattle.kt_mem.specs.declared.thread.Mode.{Mode}
-use Rattle.kt_mem.specs.declared.thread.Mode.TheVariants.{Normal, Updating}
 use Rattle.kt_types.specs.declared.kinds.FieldDecl.{FieldDecl}
 use Rattle.kt_tree.proofs.Distinct.{distinct-back}
 use Rattle.kt_tree.specs.Names.{place_of}
 use Rattle.kt_tree.specs.Tree.{Function}
-use Rattle.kt_tree.specs.Version.{Program, IsProgram, IsMain, AreDistinct, global_names, function_names, update_points}
+use Rattle.kt_tree.specs.Version.{Program, IsProgram, AreDistinct, global_names, function_names, update_points}
 use Rattle.kt_meaning.proofs.StepTypes.{get-map, Keeps}
 use Rattle.kt_meaning.proofs.TreeSettling.{settle-settles}
 use Rattle.kt_meaning.proofs.WorkTypes.{entry-IsThread, settle-IsThread, step-Keeps}
@@ -121,8 +119,8 @@ module _ (p : Program) (h : IsProgram p) where
   main-place (Some g) e =
       let there = position-Some (pointwise ◌==◌ (codes "main")) (function_names p) g [] e in
       let named : slice_get (function_names p) g ≡ Some (codes "main") =
-          slice_get-get_or (function_names p) g [] there.0
-          ∙ ap Some (sym ((bytes_decides (codes "main") (get_or (function_names p) g [])).0 there.1)) in
+      slice_get-get_or (function_names p) g [] there.0
+      ∙ ap Some (sym ((bytes_decides (codes "main") (get_or (function_names p) g [])).0 there.1)) in
       ap Some (same-place (function_names p) (distinct-back (global_names p) (function_names p) h.distinct) g h.main.0 (codes "main") named main-named)
 
   main-entry : (mode : Mode) → IsMode p mode → IsThread p (tree_entry_of mode (main_at p (Some h.main.0)))

@@ -1,8 +1,8 @@
 -- The worlds of a job whose versions are programs: what is shared is typed, and each thread that has not ended is one of the
 -- version in force and settled; a parked one stands at a point.
-use Rattle.std.specs.Prelude.{◌≡◌, ℕ, ◌+◌, ◌<◌, ◌≤◌, Bool, true, false, not, List, [], ◌∷◌, length, Option, Some, None, slice_get, slice_index_or, refl}
+use Rattle.std.specs.Prelude.{◌≡◌, ℕ, ◌+◌, ◌<◌, Bool, true, false, not, List, [], length, Option, Some, None, slice_get, slice_index_or, refl}
 use Rattle.std.specs.List.{All}
-use Rattle.std.proofs.Common.{sym, ap, subst, ◌∙◌, arith}
+use Rattle.std.proofs.Common.{sym, subst, ◌∙◌, arith}
 use Rattle.std.proofs.lemmas.Bool.{false≢true}
 use Rattle.std.proofs.lemmas.List.Elements.{All-nil, All-cons, All-set, All-map}
 use Rattle.std.proofs.lemmas.List.Folds.{list_all_at}
@@ -33,7 +33,7 @@ use Rattle.kt_world.specs.declared.mark.Phase.TheVariants.{Run, Asked, Main, Oth
 use Rattle.kt_world.specs.Job.{Job, version_at, types_at}
 use Rattle.kt_world.specs.World.{Standing, Live, Parked, Ended, Shared, Thread, World, outside_of}
 use Rattle.kt_world.specs.Update.{placed, point_of_act, point_of, next_point, if_parked, let_go, updating_from, restarted, updated, refused}
-use Rattle.kt_world.specs.Turn.{with_thread, answered, at_point, migrated, elsewhere, on_outcome, ends, effect, is_live, all_parked, memory_if, start, first_world, turn, MayTurn, tree_settle, tree_step, tree_engine, world}
+use Rattle.kt_world.specs.Turn.{with_thread, answered, at_point, migrated, elsewhere, on_outcome, ends, effect, is_live, all_parked, memory_if, start, first_world, turn, MayTurn, tree_step, tree_engine, world}
 use Rattle.kt_world.specs.Typed.{IsIntIfSome, IsThreadOf, IsTypedThread, IsTypedJob, IsTypedWorld}
 use Rattle.kt_world.specs.SharedLaws.{KeepsOutside}
 use Rattle.kt_world.specs.Laws.{enabled-parts, AreTurnsOf}
@@ -147,22 +147,22 @@ module _ (job : Job) (typed : IsTypedJob job) where
       by_version (Some p) e = found IsProgram job.versions v p typed.versions e
 
   -- the thread is settled in the version of that number
-  abbrev IsIn : ℕ → Thread tree.Thread → Type 0
-  IsIn v th = IsSettledAs v (version_at job v) th.standing th.state
+  abbrev IsSettledIn : ℕ → Thread tree.Thread → Type 0
+  IsSettledIn v th = IsSettledAs v (version_at job v) th.standing th.state
 
   shared-settled : (s r : Shared) (l : List (Thread tree.Thread)) → KeepsOutside s r → IsSettledWorld job (record { shared = s; threads = l }) →
       IsSettledWorld job (record { shared = r; threads = l })
   shared-settled s r l same h = record {
     shared = subst IsShared (sym same.outside) h.shared;
     kept = subst (All IsIntIfSome) (sym same.kept) h.kept;
-    threads = subst (λ n. All (IsIn n) l) (sym same.version) h.threads;
+    threads = subst (λ n. All (IsSettledIn n) l) (sym same.version) h.threads;
   }
 
   -- ---- acts
 
   module _ (w : World tree.Thread) (h : IsSettledWorld job w) (t : ℕ) (th : Thread tree.Thread) where
-    set-settled : (now : Thread tree.Thread) → IsIn w.shared.version now → IsSettledWorld job (with_thread w t now)
-    set-settled now i = record { shared = h.shared; kept = h.kept; threads = All-set (IsIn w.shared.version) w.threads t now i h.threads }
+    set-settled : (now : Thread tree.Thread) → IsSettledIn w.shared.version now → IsSettledWorld job (with_thread w t now)
+    set-settled now i = record { shared = h.shared; kept = h.kept; threads = All-set (IsSettledIn w.shared.version) w.threads t now i h.threads }
 
     ends-settled : (a : Act) → IsSettledWorld job (ends w t th a)
     ends-settled act.ThreadEnd = set-settled (record th { standing = Ended }) tt
@@ -173,29 +173,26 @@ module _ (job : Job) (typed : IsTypedJob job) where
       abbrev AtStep : Step tree.Thread → Type 0
       AtStep a = tree_step w.shared.version (version_at job w.shared.version) th.state ≡ a
 
+      -- the thread after a reply, settled again
+      abbrev after : Reply → Thread tree.Thread
+      after r = record th {
+        state = (tree_engine job).settle w.shared.version (after_reply th.state (tree_step w.shared.version (version_at job w.shared.version) th.state) r);
+      }
+
+      after-settled : (r : Reply) → IsReplyTo (tree_step w.shared.version (version_at job w.shared.version) th.state) r →
+          IsSettledWorld job (with_thread w t (after r))
+      after-settled r reply =
+          set-settled (after r)
+          (as-live w.shared.version (version_at job w.shared.version) th.standing (after r).state live
+          (replied-thread w.shared.version (version_at job w.shared.version) th.state r (is-program w.shared.version) i.typed reply))
+
       answered-settled : (m : Memory) (input output : List ℕ) (kept : List (Option Value)) (r : Reply) →
           IsShared (record { memory = m; input = input; output = output }) → All IsIntIfSome kept →
           IsReplyTo (tree_step w.shared.version (version_at job w.shared.version) th.state) r →
           IsSettledWorld job
           (answered (tree_engine job) w t th (record w.shared { memory = m; input = input; output = output; kept = kept }) r)
-      answered-settled m input output kept Done s k reply = record {
-        shared = s;
-        kept = k;
-        threads = (set-settled (record th {
-          state = (tree_engine job).settle w.shared.version (after_reply th.state (tree_step w.shared.version (version_at job w.shared.version) th.state) Done);
-        })
-        (as-live w.shared.version (version_at job w.shared.version) th.standing _ live
-        (replied-thread w.shared.version (version_at job w.shared.version) th.state Done (is-program w.shared.version) i.typed reply))).threads;
-      }
-      answered-settled m input output kept (Got v) s k reply = record {
-        shared = s;
-        kept = k;
-        threads = (set-settled (record th {
-          state = (tree_engine job).settle w.shared.version (after_reply th.state (tree_step w.shared.version (version_at job w.shared.version) th.state) (Got v));
-        })
-        (as-live w.shared.version (version_at job w.shared.version) th.standing _ live
-        (replied-thread w.shared.version (version_at job w.shared.version) th.state (Got v) (is-program w.shared.version) i.typed reply))).threads;
-      }
+      answered-settled m input output kept Done s k reply = record { shared = s; kept = k; threads = (after-settled Done reply).threads }
+      answered-settled m input output kept (Got v) s k reply = record { shared = s; kept = k; threads = (after-settled (Got v) reply).threads }
       answered-settled m input output kept (Trapped cause) s k reply = record { shared = s; kept = k; threads = h.threads }
 
       -- nothing is changed outside, and the thread goes on
@@ -252,7 +249,7 @@ module _ (job : Job) (typed : IsTypedJob job) where
       let same : parts.0 ≡ th = same_Some parts.0 th (sym parts.1 ∙ is) in
       let live : is_live th.standing ≡ true = subst (λ (x : Thread tree.Thread). is_live x.standing ≡ true) same parts.2 in
       let i = of-live w.shared.version (version_at job w.shared.version) th.standing th.state live
-          (found (IsIn w.shared.version) w.threads t th h.threads is) in
+      (found (IsSettledIn w.shared.version) w.threads t th h.threads is) in
       effect-settled w h t th live i (types_at job w.shared.version) (tree_step w.shared.version (version_at job w.shared.version) th.state) refl
       (step-leaves (types_at job w.shared.version) t (outside_of w.shared) w.shared.version (version_at job w.shared.version) th.state h.shared
       (is-program w.shared.version) i.typed)
@@ -268,7 +265,7 @@ module _ (job : Job) (typed : IsTypedJob job) where
       output = h.shared.output;
     };
     kept = kept_values-int (outside_of w.shared) h.shared old new;
-    threads = All-map (IsIn (w.shared.version + 1)) (restarted (tree_engine job) w.shared.version old new) w.threads
+    threads = All-map (IsSettledIn (w.shared.version + 1)) (restarted (tree_engine job) w.shared.version old new) w.threads
         (λ k d in_range. restarted-in (slice_index_or w.threads k d) (none-lives w.threads k d between.parked in_range));
   }
     where
@@ -279,7 +276,7 @@ module _ (job : Job) (typed : IsTypedJob job) where
           (sym between.to) (next-mode old new (tree_step w.shared.version (version_at job w.shared.version) th.state))
 
       by_standing : (th : Thread tree.Thread) (standing : Standing) → th.standing ≡ standing → not (is_live standing) ≡ true →
-          IsIn (w.shared.version + 1) (if_parked standing th (record {
+          IsSettledIn (w.shared.version + 1) (if_parked standing th (record {
             state = (tree_engine job).settle (w.shared.version + 1) ((tree_engine job).entry (w.shared.version + 1)
                 (updating_from (next_point old new (tree_step w.shared.version (version_at job w.shared.version) th.state))));
             standing = Live;
@@ -291,19 +288,19 @@ module _ (job : Job) (typed : IsTypedJob job) where
           subst (λ s. IsSettledAs (w.shared.version + 1) (version_at job (w.shared.version + 1)) s th.state) (sym e) tt
 
       restarted-in : (th : Thread tree.Thread) → not (is_live th.standing) ≡ true →
-          IsIn (w.shared.version + 1) (restarted (tree_engine job) w.shared.version old new th)
+          IsSettledIn (w.shared.version + 1) (restarted (tree_engine job) w.shared.version old new th)
       restarted-in th parked = by_standing th th.standing refl parked
 
   refusal-settled : (t : ℕ) (w : World tree.Thread) → IsSettledWorld job w → IsSettledWorld job (refused (tree_engine job) t w)
   refusal-settled t w h = record {
     shared = h.shared;
     kept = h.kept;
-    threads = All-map (IsIn w.shared.version) (let_go (tree_engine job) w.shared.version) w.threads
+    threads = All-map (IsSettledIn w.shared.version) (let_go (tree_engine job) w.shared.version) w.threads
         (λ k d in_range. let_go-in (slice_index_or w.threads k d) (h.threads k d in_range));
   }
     where
-      by_standing : (th : Thread tree.Thread) (standing : Standing) → th.standing ≡ standing → IsIn w.shared.version th →
-          IsIn w.shared.version (if_parked standing th (record {
+      by_standing : (th : Thread tree.Thread) (standing : Standing) → th.standing ≡ standing → IsSettledIn w.shared.version th →
+          IsSettledIn w.shared.version (if_parked standing th (record {
             state = (tree_engine job).settle w.shared.version
                 (after_reply th.state (tree_step w.shared.version (version_at job w.shared.version) th.state) Done);
             standing = Live;
@@ -315,7 +312,7 @@ module _ (job : Job) (typed : IsTypedJob job) where
           (point-reply (tree_step w.shared.version (version_at job w.shared.version) th.state) there.1)
       by_standing th Ended e i = i
 
-      let_go-in : (th : Thread tree.Thread) → IsIn w.shared.version th → IsIn w.shared.version (let_go (tree_engine job) w.shared.version th)
+      let_go-in : (th : Thread tree.Thread) → IsSettledIn w.shared.version th → IsSettledIn w.shared.version (let_go (tree_engine job) w.shared.version th)
       let_go-in th i = by_standing th th.standing refl i
 
   -- ---- worlds
@@ -332,8 +329,8 @@ module _ (job : Job) (typed : IsTypedJob job) where
   start-settled = record {
     shared = record { memory = start-memory (version_at job 0) (is-program 0); input = typed.input; output = omega arith };
     kept = All-nil IsIntIfSome;
-    threads = All-cons (IsIn 0) _ []
-        (entered-thread 0 (version_at job 0) Normal (is-program 0) (normal-mode (version_at job 0))) (All-nil (IsIn 0));
+    threads = All-cons (IsSettledIn 0) _ []
+        (entered-thread 0 (version_at job 0) Normal (is-program 0) (normal-mode (version_at job 0))) (All-nil (IsSettledIn 0));
   }
 
   -- the world before the first turn

@@ -1,5 +1,5 @@
 -- A closing: what refuses it, and the update (whole-program update as in Kitsune; OOPSLA 2012, section 3).
-use Rattle.std.specs.Prelude.{ℕ, pos, negsuc, nat_lt, ◌+◌, ◌-◌, ◌==◌, ◌&&◌, not, Bool, true, false, List, [], ◌∷◌, ◌++◌, map, length, Option, Some, None, option_and_then, is_none, Result, Ok, Err, if◌then◌else◌, slice_get}
+use Rattle.std.specs.Prelude.{ℕ, pos, negsuc, nat_lt, ◌+◌, ◌-◌, ◌==◌, ◌&&◌, not, Bool, false, List, [], ◌∷◌, ◌++◌, map, length, Option, Some, None, option_and_then, is_none, Result, Ok, Err, if◌then◌else◌, slice_get}
 use Rattle.std.specs.Option.{option_map}
 use Rattle.kt_types.specs.declared.kinds.Ty.{Ty}
 use Rattle.kt_types.specs.declared.kinds.Ty.TheVariants as ty
