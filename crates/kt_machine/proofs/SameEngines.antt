@@ -1,17 +1,16 @@
 -- The engine of trees and that of code keep the relation of states, where the codes are those of the job's versions.
-use Rattle.std.specs.Prelude.{◌≡◌, ◌⊎◌, ℕ, true, List, [], ◌∷◌, map, take, codes, length, Option, Some, None, slice_get, refl}
-use Rattle.std.specs.List.{All, AllByRecursion}
+use Rattle.std.specs.Prelude.{◌≡◌, ℕ, true, List, [], map, take, codes, Option, Some, None, slice_get, refl}
+use Rattle.std.specs.List.{All}
 use Rattle.std.specs.Option.{is_some, option_map}
 use Rattle.std.proofs.Common.{sym, subst, ap, ◌∙◌, inr}
 use Rattle.std.proofs.lemmas.List.Elements.{All-from_recursion}
-use Rattle.std.proofs.lemmas.Option.{none-some, slice_get-map, slice_get_within, get_or_from_slice_get}
+use Rattle.std.proofs.lemmas.Option.{slice_get-map, slice_get_within, get_or_from_slice_get}
 use Rattle.kt_types.specs.declared.kinds.FieldDecl.{FieldDecl}
 use Rattle.kt_mem.specs.declared.steps.Act.{Act}
 use Rattle.kt_mem.specs.declared.steps.Act.TheVariants as act
 use Rattle.kt_mem.specs.declared.steps.Reply.{Reply}
 use Rattle.kt_mem.specs.declared.steps.Reply.TheVariants.{Done}
 use Rattle.kt_mem.specs.declared.thread.Mode.{Mode}
-use Rattle.kt_tree.specs.Kinds.{int_type}
 use Rattle.kt_tree.specs.Names.{place_of}
 use Rattle.kt_tree.specs.Tree.{Function}
 use Rattle.kt_tree.specs.Version.{Program, IsProgram, head_of, function_names}
@@ -19,23 +18,21 @@ use Rattle.kt_meaning.specs.Laws.{numbered}
 use Rattle.kt_meaning.specs.Requests.{IsReplyOf}
 use Rattle.kt_meaning.specs.Steps.{Step, Quiet, Acts, Traps, Ends, after_reply}
 use Rattle.kt_meaning.specs.Thread as tree
-use Rattle.kt_meaning.specs.ThreadTypes.{IsMode, IsRestart}
+use Rattle.kt_meaning.specs.ThreadTypes.{IsMode}
 use Rattle.kt_meaning.specs.Values.{AreAt}
 use Rattle.kt_code.specs.Agreement.{IsReplyTo, SameHead, DoesSameActs}
-use Rattle.kt_code.specs.Code.{Code}
 use Rattle.kt_code.specs.Looks.{code_threads, tree_threads}
 use Rattle.kt_code.specs.Settling as settling
 use Rattle.kt_code.specs.declared.private.Private.{Private}
 use Rattle.kt_pair.specs.Pair.{Pair}
-use Rattle.kt_pair.specs.VersionActs.{DoesFunction, DoesVersion, FitsEntries}
 use Rattle.kt_world.specs.Job.{Job, version_at}
-use Rattle.kt_world.specs.Turn.{numbered_function, main_at, main_of, restart_in, tree_entry_of, tree_entry, tree_settle, tree_step, tree_engine}
+use Rattle.kt_world.specs.Turn.{main_at, restart_in, tree_entry_of, tree_entry, tree_settle, tree_step, tree_engine}
 use Rattle.kt_world.specs.Typed.{IsTypedJob}
 use Rattle.kt_world.specs.TypedThreads.{IsProgramIf, IsModeIf, main-place}
 use Rattle.kt_world.specs.Update.{point_of_act, point_of}
-use Rattle.kt_world.specs.World.{Engine, Standing, Live, Parked, Ended}
+use Rattle.kt_world.specs.World.{Standing, Live, Parked, Ended}
 use Rattle.kt_machine.specs.Engine.{entry_at, entry_of, code_entry, code_settle, code_step, code_engine, DoesActs, AreCodesOf}
-use Rattle.kt_machine.specs.Same.{IsSameIn, IsSameMode, IsSameState, IsAtPoint, IsSameBy}
+use Rattle.kt_machine.specs.Same.{IsSameMode, IsSameState, IsSameBy}
 use Rattle.kt_machine.proofs.SameStates.{head-same, in-one-mode, settled-IsSameIn, replied-IsSameIn}
 use Rattle.kt_machine.proofs.SameThreads.{AreSameEngines}
 

@@ -1,7 +1,7 @@
 -- The same turns make worlds of the tree and of code that stand for one another; and a machine's turns may be taken.
-use Rattle.std.specs.Prelude.{◌≡◌, ℕ, zero, ◌<◌, false, List, [], ◌∷◌, length, Option, Some, None, slice_get, refl}
+use Rattle.std.specs.Prelude.{◌≡◌, ℕ, false, List, [], ◌∷◌, Option, Some, None, slice_get, refl}
 use Rattle.std.specs.List.{All}
-use Rattle.std.proofs.Common.{sym, subst, ap, ◌∙◌, arith}
+use Rattle.std.proofs.Common.{subst, ◌∙◌, arith}
 use Rattle.kt_types.specs.Table.{Table}
 use Rattle.kt_mem.specs.declared.steps.Act.{Act}
 use Rattle.kt_mem.specs.declared.steps.Act.TheVariants as act
@@ -31,9 +31,7 @@ use Rattle.kt_machine.specs.declared.machine.Machine.{Machine}
 use Rattle.kt_machine.specs.Engine.{code_step, code_engine, AreCodesOf, thread_of, world_of, IsCompleteHead, IsReady}
 use Rattle.kt_machine.specs.Outside.{IsComplete}
 use Rattle.kt_machine.specs.Same.{IsSameBy, IsSameThread, AreSameThreads, IsSameWorld}
-use Rattle.kt_machine.specs.Shared.{shared_of}
 use Rattle.kt_machine.proofs.SameEngines.{engines-same, is-program}
-use Rattle.kt_machine.proofs.SameThreads.{AreSameEngines}
 use Rattle.kt_machine.proofs.SameTurns as turns
 
 module _ (job : Job) (codes : List Pair) (are : AreCodesOf job codes) (typed : IsTypedJob job) where
@@ -69,7 +67,7 @@ module _ (job : Job) (codes : List Pair) (are : AreCodesOf job codes) (typed : I
 
 -- ---- a machine whose thread may take a turn
 
--- what a last act takes is no reply
+-- a last act takes no reply
 abbrev IsLast : Step Private → Type 0
 IsLast (Ends a) = takes_reply a ≡ false
 IsLast s = Unit {0}

@@ -5,7 +5,7 @@ use Rattle.std.proofs.Common.{sym, subst, ap}
 use Rattle.kt_mem.specs.declared.steps.Reply.{Reply}
 use Rattle.kt_mem.specs.declared.steps.Reply.TheVariants.{Done, Got, Trapped}
 use Rattle.kt_meaning.specs.Laws.{numbered}
-use Rattle.kt_meaning.specs.Steps.{Step, Quiet, Acts, Traps, Ends, IsHead, Comes, or_rest, settle_within, Settles, after_reply}
+use Rattle.kt_meaning.specs.Steps.{Step, Quiet, Acts, Traps, Ends, IsHead, Comes, or_rest, settle_within, after_reply}
 use Rattle.kt_meaning.specs.Thread as tree
 use Rattle.kt_meaning.specs.TreeSteps as steps
 use Rattle.kt_meaning.specs.Weights as weights

@@ -1,16 +1,15 @@
 -- The threads of one engine stand for those of another, under a relation of their states that both engines keep. What the
 -- definitions of a turn read of them is then the same.
-use Rattle.std.specs.Prelude.{◌≡◌, ℕ, zero, suc, ◌+◌, List, [], ◌∷◌, map, Option, Some, None, Bool, true, false, ◌&&◌, ◌||◌, not, slice_get, slice_set, refl}
+use Rattle.std.specs.Prelude.{◌≡◌, ℕ, zero, suc, ◌+◌, List, [], ◌∷◌, map, Option, Some, None, Bool, true, ◌&&◌, ◌||◌, not, slice_get, slice_set, refl}
 use Rattle.std.specs.List.{list_all}
 use Rattle.std.specs.Option.{is_some}
-use Rattle.std.proofs.Common.{sym, subst, ap, ◌∙◌}
+use Rattle.std.proofs.Common.{subst, ap, ◌∙◌}
 use Rattle.kt_mem.specs.declared.steps.Act.TheVariants as act
 use Rattle.kt_mem.specs.declared.steps.Reply.{Reply}
 use Rattle.kt_mem.specs.declared.steps.Reply.TheVariants.{Done}
 use Rattle.kt_mem.specs.declared.thread.Mode.{Mode}
-use Rattle.kt_mem.specs.Memory.{Memory, waits}
-use Rattle.kt_tree.specs.Version.{Program}
-use Rattle.kt_meaning.specs.Steps.{Step, Quiet, Acts, Traps, Ends, after_reply}
+use Rattle.kt_mem.specs.Memory.{Memory}
+use Rattle.kt_meaning.specs.Steps.{Step, Acts, Traps, Ends, after_reply}
 use Rattle.kt_code.specs.Agreement.{IsReplyTo, SameHead}
 use Rattle.kt_world.specs.Job.{Job, version_at}
 use Rattle.kt_world.specs.Turn.{is_live, is_turnable, is_waiting, enabled_as, enabled_if, any_enabled, is_normal, main_is_normal, has_ended, all_normal, all_parked}

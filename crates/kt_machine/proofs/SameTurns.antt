@@ -1,5 +1,5 @@
 -- Worlds that stand for one another still do after a turn: each definition of a turn, same in, same out.
-use Rattle.std.specs.Prelude.{◌≡◌, ℕ, ◌+◌, List, [], ◌∷◌, Option, Some, None, is_none, Bool, true, false, not, if◌then◌else◌, slice_get, slice_set, refl}
+use Rattle.std.specs.Prelude.{◌≡◌, ℕ, ◌+◌, List, Option, Some, None, is_none, true, slice_get, refl}
 use Rattle.std.specs.Option.{is_some}
 use Rattle.std.proofs.Common.{sym, subst, ap, ◌∙◌}
 use Rattle.kt_types.specs.Table.{Table}
@@ -15,8 +15,7 @@ use Rattle.kt_tree.specs.Version.{Program}
 use Rattle.kt_meaning.specs.Effects as outside
 use Rattle.kt_meaning.specs.Effects.{Outcome, Replies, Waits, Elsewhere}
 use Rattle.kt_meaning.specs.Laws.{IsShared, IsOutcomeOf}
-use Rattle.kt_meaning.specs.Requests.{IsReplyOf}
-use Rattle.kt_meaning.specs.Steps.{Step, Quiet, Acts, Traps, Ends}
+use Rattle.kt_meaning.specs.Steps.{Step, Acts, Traps, Ends}
 use Rattle.kt_meaning.proofs.EffectTypes.{effect-IsOutcomeOf}
 use Rattle.kt_code.specs.Agreement.{IsReplyTo, SameHead}
 use Rattle.kt_world.specs.declared.mark.End.TheVariants as end
@@ -24,10 +23,10 @@ use Rattle.kt_world.specs.declared.mark.Phase.{Phase}
 use Rattle.kt_world.specs.declared.mark.Phase.TheVariants.{Run, Asked, Main, Others}
 use Rattle.kt_world.specs.Job.{Job, version_at, types_at}
 use Rattle.kt_world.specs.SharedLaws.{with_mark-keeps, asked-keeps, spent-keeps}
-use Rattle.kt_world.specs.Turn.{answered, at_point, migrated, elsewhere, on_outcome, ends, effect, act_of, acted, counted, is_enabled, enabled_as, enabled_if, any_enabled, ongoing, on_shared, with_mark, end_marked, main_is_normal, all_normal, all_parked, main_there, all_back, closed_up, asked, stuck, spent, before_turn, after_act, turn, start, first_world, world_from, MayTurn, MayTurnAll}
+use Rattle.kt_world.specs.Turn.{answered, at_point, migrated, elsewhere, on_outcome, ends, effect, act_of, acted, is_enabled, enabled_if, any_enabled, ongoing, on_shared, with_mark, main_is_normal, all_normal, all_parked, main_there, all_back, closed_up, asked, stuck, spent, before_turn, after_act, turn, start, first_world, MayTurn}
 use Rattle.kt_world.specs.TypedThreads.{IsModeIf}
 use Rattle.kt_world.specs.Update.{point_of}
-use Rattle.kt_world.specs.World.{Engine, Standing, Live, Parked, Ended, Shared, Thread, World, outside_of, with_outside}
+use Rattle.kt_world.specs.World.{Engine, Standing, Live, Shared, Thread, World, outside_of, with_outside}
 use Rattle.kt_machine.specs.Same.{IsSameThread, AreSameThreads, AreSameWorlds}
 use Rattle.kt_machine.proofs.SameThreads.{AreSameEngines, AreSameFound, slice_get-same, slice_set-same, all_normal-same, all_parked-same, main_is_normal-same, enabled_if-same, any_enabled-same, enabled-live}
 use Rattle.kt_machine.proofs.SameUpdates.{chosen-same, closing-same}

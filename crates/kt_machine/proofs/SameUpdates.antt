@@ -1,17 +1,13 @@
 -- Worlds that stand for one another still do after a closing: each definition of an update, same in, same out.
 use Rattle.std.specs.Prelude.{◌≡◌, ℕ, ◌+◌, List, [], ◌∷◌, map, Option, Some, None, option_and_then, Bool, true, false, ◌&&◌, not, if◌then◌else◌, is_none, refl}
-use Rattle.std.specs.Option.{is_some}
 use Rattle.std.proofs.Common.{sym, subst, ap, ◌∙◌}
 use Rattle.kt_mem.specs.declared.steps.Reply.TheVariants.{Done}
-use Rattle.kt_mem.specs.declared.thread.Mode.{Mode}
 use Rattle.kt_tree.specs.Version.{Program}
-use Rattle.kt_meaning.specs.Steps.{Step, after_reply}
 use Rattle.kt_meaning.specs.ThreadTypes.{IsMode}
-use Rattle.kt_code.specs.Agreement.{IsReplyTo, SameHead}
 use Rattle.kt_world.specs.Job.{Job, version_at}
 use Rattle.kt_world.specs.Turn.{is_live, all_parked}
 use Rattle.kt_world.specs.TypedThreads.{IsModeIf, next-mode}
-use Rattle.kt_world.specs.Update.{point_of, new_point, next_point, is_lost, lost_point, let_go, updating_from, restarted, decided, closed_between, closing}
+use Rattle.kt_world.specs.Update.{new_point, next_point, is_lost, lost_point, let_go, updating_from, restarted, decided, closed_between, closing}
 use Rattle.kt_world.specs.World.{Engine, Standing, Live, Parked, Ended, Shared, Thread, World}
 use Rattle.kt_machine.specs.Same.{IsSameThread, AreSameThreads, AreSameWorlds}
 use Rattle.kt_machine.proofs.SameThreads.{AreSameEngines, point_of-same, map-same}

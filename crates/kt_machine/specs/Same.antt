@@ -42,6 +42,7 @@ pub record IsSameIn (v : ℕ) (c : Pair) (x : tree.Thread) (y : Private) : Type 
 abbrev pub IsSameMode : tree.Thread → Private → Type 0
 IsSameMode x y = x.restart.mode ≡ y.mode
 
+-- where there is no version, only the mode counts
 abbrev pub IsSameState : ℕ → Option Pair → tree.Thread → Private → Type 0
 IsSameState v None x y = IsSameMode x y
 IsSameState v (Some c) x y = IsSameIn v c x y
@@ -51,7 +52,7 @@ abbrev pub IsAtPoint : ℕ → Option Pair → tree.Thread → Type 0
 IsAtPoint v None x = ⊥
 IsAtPoint v (Some c) x = is_some (point_of (steps.step (numbered c.program v) x)) ≡ true
 
--- a parked thread stands at a point; of an ended one the mode is all that counts
+-- a parked thread stands at a point; of an ended one only the mode counts
 abbrev pub IsSameBy : ℕ → Option Pair → Standing → tree.Thread → Private → Type 0
 IsSameBy v c Live x y = IsSameState v c x y
 IsSameBy v c Parked x y = IsSameState v c x y × IsAtPoint v c x
