@@ -1,3 +1,4 @@
+pub mod Heads
 pub mod SameEngines
 pub mod SameRuns
 pub mod SameStates

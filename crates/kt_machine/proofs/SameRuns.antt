@@ -22,15 +22,17 @@ use Rattle.kt_code.specs.declared.private.Private.{Private}
 use Rattle.kt_pair.specs.Pair.{Pair}
 use Rattle.kt_world.specs.Job.{Job, version_at, types_at, types_of}
 use Rattle.kt_world.specs.Laws.{AreTurnsOf}
-use Rattle.kt_world.specs.Turn.{is_enabled, turn, first_world, world, world_from, MayTurn, MayTurnAll, tree_step, tree_engine}
+use Rattle.kt_world.specs.Turn.{has_ended, is_enabled, turn, first_world, world, world_from, MayTurn, MayTurnAll, tree_step, tree_engine}
 use Rattle.kt_world.specs.Typed.{IsTypedJob, IsTypedWorld, IsThreadOf, IsTypedThread}
 use Rattle.kt_world.specs.TypedThreads.{IsProgramIf}
 use Rattle.kt_world.specs.TypedWorlds.{IsSettledWorld, first_world-settled, turn-settled}
 use Rattle.kt_world.specs.World.{Live, Shared, Thread, World, outside_of}
 use Rattle.kt_machine.specs.declared.machine.Machine.{Machine}
-use Rattle.kt_machine.specs.Engine.{code_step, code_engine, AreCodesOf, thread_of, world_of, IsCompleteHead, IsReady}
+use Rattle.kt_machine.specs.declared.machine.Standing.TheVariants as standing
+use Rattle.kt_machine.specs.Engine.{code_step, code_engine, AreCodesOf, standing_of, thread_of, world_of, IsSettled, IsCompleteHead, IsReady}
 use Rattle.kt_machine.specs.Outside.{IsComplete}
 use Rattle.kt_machine.specs.Same.{IsSameBy, IsSameThread, AreSameThreads, IsSameWorld}
+use Rattle.kt_machine.proofs.Heads.{IsPlaced, step-placed}
 use Rattle.kt_machine.proofs.SameEngines.{engines-same, is-program}
 use Rattle.kt_machine.proofs.SameTurns as turns
 
@@ -72,11 +74,11 @@ abbrev IsLast : Step Private → Type 0
 IsLast (Ends a) = takes_reply a ≡ false
 IsLast s = Unit {0}
 
-last-by : (s : Step Private) → ((a : Act) → s ≡ Ends a → takes_reply a ≡ false) → IsLast s
-last-by (Ends a) h = h a refl
-last-by (Quiet x) h = tt
-last-by (Acts a go) h = tt
-last-by (Traps t) h = tt
+placed-last : (s : Step Private) → IsPlaced s → IsLast s
+placed-last (Ends a) h = h
+placed-last (Quiet x) h = tt
+placed-last (Acts a go) h = tt
+placed-last (Traps t) h = tt
 
 typed-complete : (p : Program) (a : Act) → IsTypedAct p a → IsComplete p.types a
 typed-complete p (act.Allocate e n zeros) h = h
@@ -136,14 +138,16 @@ module _ (job : Job) (codes : List Pair) (are : AreCodesOf job codes) (typed : I
   alone-complete v (th ∷ rest) b h same all live last is =
       lives-complete v th b h same.0 (first-of (λ (th : Thread tree.Thread). IsTypedThread (version_at job v) th.standing th.state) th rest all) live last is
 
-  -- what the turns of a machine ask of it, where its thread lives and stands at its head
-  pub ready : (w : World tree.Thread) (m : Machine) → IsSameWorld codes w (world_of m) → IsTypedWorld job w → (thread_of m).standing ≡ Live →
-      ((a : Act) → code_step (slice_get codes m.shared.version) m.private ≡ Ends a → takes_reply a ≡ false) →
-      head_of (code_step (slice_get codes m.shared.version) m.private) ≡ Some m.head → IsReady job m
-  ready w m h world live last is = record {
-    shared = subst (λ (s : Shared). IsShared (outside_of s)) h.shared world.shared;
-    complete = alone-complete m.shared.version w.threads (thread_of m) m.head
-        (subst (λ (s : Shared). AreSameThreads (IsSameBy s.version (slice_get codes s.version)) w.threads (thread_of m ∷ [])) h.shared h.threads)
-        (subst (λ (s : Shared). All (λ (th : Thread tree.Thread). IsTypedThread (version_at job s.version) th.standing th.state) w.threads) h.shared world.threads)
-        live (last-by (code_step (slice_get codes m.shared.version) m.private) last) is;
-  }
+  -- what the turns of a machine ask of it, where its thread lives
+  pub ready : (w : World tree.Thread) (m : Machine) → IsSameWorld codes w (world_of m) → IsTypedWorld job w → m.standing ≡ standing.Live →
+      IsSettled codes m → IsReady job m
+  ready w m h world live settled =
+      let stands = settled.stands (ap (λ s. has_ended (standing_of s)) live) in
+      let step = code_step (slice_get codes m.shared.version) m.private in
+      record {
+        shared = subst (λ (s : Shared). IsShared (outside_of s)) h.shared world.shared;
+        complete = alone-complete m.shared.version w.threads (thread_of m) m.head
+            (subst (λ (s : Shared). AreSameThreads (IsSameBy s.version (slice_get codes s.version)) w.threads (thread_of m ∷ [])) h.shared h.threads)
+            (subst (λ (s : Shared). All (λ (th : Thread tree.Thread). IsTypedThread (version_at job s.version) th.standing th.state) w.threads) h.shared world.threads)
+            (ap standing_of live) (placed-last step (step-placed (slice_get codes m.shared.version) m.private)) stands.head;
+      }

@@ -1,5 +1,7 @@
 pub mod Outside
 pub mod Shared
 pub mod Engine
+pub mod Acts
+pub mod Closing
 pub mod Same
 pub mod Report

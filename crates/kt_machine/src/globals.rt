@@ -1,7 +1,8 @@
 //! The globals of versions: the heap with which a version begins, what an update keeps of the old ones, and points by name.
-ghost use Rattle.std.specs.Prelude.{◌≡◌, [], IfOk};
+ghost use Rattle.std.specs.Prelude.{◌≡◌, ◌<◌, [], IfOk, IfSome};
 ghost use Rattle.kt_heap.specs.Heap.{memory, given};
 ghost use Rattle.kt_world.specs.Update as plain;
+ghost use Rattle.kt_machine.specs.Outside.{HasCharLiterals};
 
 use kt_heap::Heap;
 use kt_mem::Value;
@@ -12,6 +13,7 @@ use std::alloc::{AllocError, Global};
 /// and no heap object. The next heap number is `next`.
 pub fn first_heap(alloc: Global, v: u8, version: &Version, next: u64) -> Result<Heap, AllocError>
     ensures memory { IfOk result (λ heap. memory heap ≡ plain.first_memory v version.now next) }
+    ensures literals { IfOk result (λ heap. HasCharLiterals (memory heap)) }
     ensures given { IfOk result (λ heap. given heap ≡ []) }
 {
     Err(AllocError)
@@ -38,8 +40,11 @@ pub fn place(heap: &mut Heap, kept: &[Option<Value>])
 
 /// The point of the new version with the name of this point of the old one.
 pub fn new_point(old: &Version, new: &Version, point: u32) -> Option<u32>
-    ensures { result ≡ plain.new_point old.now new.now point }
+    ensures place { result ≡ plain.new_point old.now new.now point }
+    ensures within { IfSome result (λ place. place < new.now.points.updates) }
 {
-    let _ = (old, new, point);
+    let _ = old;
+    let _ = new;
+    let _ = point;
     None
 }

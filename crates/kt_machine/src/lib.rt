@@ -2,12 +2,16 @@
 //! run has written and how it has ended. So far its one thread is `main`.
 #![tactic(auto)]
 
+mod acts;
+mod closing;
 mod effects;
+mod entry;
 mod globals;
 mod laws;
 mod machine;
 mod outside;
 mod shared;
+mod tried;
 mod turns;
 
 pub use turns::{Report, take_turns};
