@@ -1,5 +1,5 @@
 -- The same turns make worlds of the tree and of code that stand for one another; and a machine's turns may be taken.
-use Rattle.std.specs.Prelude.{◌≡◌, ℕ, false, List, [], ◌∷◌, Option, Some, None, slice_get, refl}
+use Rattle.std.specs.Prelude.{◌≡◌, ℕ, false, List, [], ◌∷◌, Option, Some, None, slice_get}
 use Rattle.std.specs.List.{All}
 use Rattle.std.proofs.Common.{subst, ap, ◌∙◌, arith}
 use Rattle.kt_types.specs.Table.{Table}
