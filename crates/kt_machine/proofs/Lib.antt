@@ -1,10 +1,7 @@
-mod Acting
-mod Closings
-mod Codes
-mod Heads
-mod Starting
-mod Turning
+pub mod Acting
 pub mod Allocations
+pub mod Closings
+pub mod Codes
 pub mod FirstMemory
 pub mod Heads
 pub mod Lists
@@ -17,3 +14,5 @@ pub mod SameStates
 pub mod SameThreads
 pub mod SameTurns
 pub mod SameUpdates
+pub mod Starting
+pub mod Turning

@@ -5,7 +5,8 @@ ghost use Rattle.kt_world.specs.Job as plain_job;
 ghost use Rattle.kt_world.specs.Plain.{job_of};
 
 use crate::entry::enter_main;
-use crate::globals::{first_heap, kept_values, new_point};
+use crate::first_heap::first_heap;
+use crate::globals::{kept_values, new_point};
 use crate::machine::{Machine, Standing, in_force};
 use kt_code::Head;
 use kt_exec::settle;

@@ -79,5 +79,4 @@ fn no_frames(alloc: Global, v: u8, mode: Mode) -> Private
         mode,
         locals: KeptLocals::from_vec(Vec::new(alloc)),
     }
-    Err(AllocError)
 }

@@ -1,10 +1,7 @@
 //! What an update carries over by name: the values of globals, and points.
 ghost use Rattle.std.specs.Prelude.{◌≡◌, ◌<◌, ◌≤◌, length, IfOk, IfSome};
-//! The globals of versions: the heap with which a version begins, what an update keeps of the old ones, and points by name.
-ghost use Rattle.std.specs.Prelude.{◌≡◌, ◌<◌, ◌≤◌, [], length, IfOk, IfSome};
 ghost use Rattle.kt_heap.specs.Heap.{memory, given};
 ghost use Rattle.kt_world.specs.Update as plain;
-ghost use Rattle.kt_machine.specs.Outside.{HasCharLiterals};
 
 use kt_heap::Heap;
 use kt_mem::{Name, Value};
@@ -14,15 +11,6 @@ use std::alloc::{AllocError, Global};
 
 /// The place of `int` in every table of types.
 const INT_TYPE: u32 = 1;
-/// The heap with which a program begins that is version `v`: its globals with their initial values, its string literals,
-/// and no heap object. The next heap number is `next`.
-pub fn first_heap(alloc: Global, v: u8, version: &Version, next: u64) -> Result<Heap, AllocError>
-    ensures memory { IfOk result (λ heap. memory heap ≡ plain.first_memory v version.now next) }
-    ensures literals { IfOk result (λ heap. HasCharLiterals (memory heap)) }
-    ensures given { IfOk result (λ heap. given heap ≡ []) }
-{
-    Err(AllocError)
-}
 
 /// What an update keeps for the new version's globals.
 pub fn kept_values(
