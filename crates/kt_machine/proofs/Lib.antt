@@ -9,6 +9,12 @@ pub mod MainEntry
 pub mod Memory
 pub mod Placed
 pub mod Printing
+pub mod SameEngines
+pub mod SameRuns
+pub mod SameStates
+pub mod SameThreads
+pub mod SameTurns
+pub mod SameUpdates
 pub mod Starting
 pub mod Trying
 pub mod Turning

@@ -10,6 +10,7 @@ mod entry;
 mod first_heap;
 mod first_objects;
 mod globals;
+mod laws;
 mod machine;
 mod mutex;
 mod outside;
