@@ -5,3 +5,5 @@ pub mod SameStates
 pub mod SameThreads
 pub mod SameTurns
 pub mod SameUpdates
+mod UnderWay
+mod RunLemmas
