@@ -26,6 +26,9 @@ use Rattle.kt_code.specs.declared.private.Head.TheVariants as head
 use Rattle.kt_code.specs.declared.private.Private.{Private}
 use Rattle.kt_pair.specs.Pair.{Pair}
 use Rattle.kt_world.specs.Turn.{is_waiting}
+use Rattle.kt_world.specs.Update.{point_of, point_of_act}
+use Rattle.kt_machine.specs.Acts.{waits_at}
+use Rattle.kt_machine.specs.Closing.{old_point}
 use Rattle.kt_machine.specs.Engine.{code_step}
 
 -- ---- an act takes a reply, and a last one takes none
@@ -196,3 +199,48 @@ step-at (head.Trap t) (Ends b) e p = absurd cc
 
 pub stands-at : (o : Option Pair) (x : Private) (h : Head) → head_of (code_step o x) ≡ Some h → IsStepAt h (code_step o x)
 stands-at o x h e = step-at h (code_step o x) e (step-placed o x)
+
+-- ---- what waits, and where a thread stands, by the head
+
+acts-waits : (m : Memory) (a : Act) (go : Reply → Private) → is_waiting m 0 (Acts a go) ≡ waits_at m a
+acts-waits m (act.Lock p) go = refl
+acts-waits m a go = refl
+
+last-waits : (m : Memory) (a : Act) → takes_reply a ≡ false → waits_at m a ≡ false
+last-waits m (act.Lock p) h = absurd cc
+last-waits m a h = refl
+
+waits-act : (m : Memory) (a : Act) (s : Step Private) → IsStepAt (head.Act a) s → is_waiting m 0 s ≡ waits_at m a
+waits-act m a (Quiet x) h = absurd h
+waits-act m a (Acts b go) h = acts-waits m b go ∙ ap (waits_at m) h.0
+waits-act m a (Traps t) h = absurd h
+waits-act m a (Ends b) h = sym (last-waits m a h.1)
+
+waits-trap : (m : Memory) (t : Trap) (s : Step Private) → IsStepAt (head.Trap t) s → is_waiting m 0 s ≡ false
+waits-trap m t (Quiet x) h = absurd h
+waits-trap m t (Acts b go) h = absurd h
+waits-trap m t (Traps u) h = refl
+waits-trap m t (Ends b) h = absurd h
+
+-- a machine waits at its act
+pub waiting : (m : Memory) (o : Option Pair) (x : Private) (h : Head) (a : Act) → head_of (code_step o x) ≡ Some h → h ≡ head.Act a →
+    is_waiting m 0 (code_step o x) ≡ waits_at m a
+waiting m o x h a stands is = waits-act m a (code_step o x) (stands-at o x (head.Act a) (stands ∙ ap Some is))
+
+pub not_waiting : (m : Memory) (o : Option Pair) (x : Private) (h : Head) (t : Trap) → head_of (code_step o x) ≡ Some h → h ≡ head.Trap t →
+    is_waiting m 0 (code_step o x) ≡ false
+not_waiting m o x h t stands is = waits-trap m t (code_step o x) (stands-at o x (head.Trap t) (stands ∙ ap Some is))
+
+last-point : (a : Act) → takes_reply a ≡ false → point_of_act a ≡ None
+last-point (act.Point p) h = absurd cc
+last-point a h = refl
+
+pub point-at : (h : Head) (s : Step Private) → IsStepAt h s → point_of s ≡ old_point h
+point-at (head.Act a) (Quiet x) h = absurd h
+point-at (head.Act a) (Acts b go) h = ap point_of_act h.0
+point-at (head.Act a) (Traps t) h = absurd h
+point-at (head.Act a) (Ends b) h = sym (last-point a h.1)
+point-at (head.Trap t) (Quiet x) h = absurd h
+point-at (head.Trap t) (Acts b go) h = absurd h
+point-at (head.Trap t) (Traps u) h = refl
+point-at (head.Trap t) (Ends b) h = absurd h

@@ -1,9 +1,20 @@
+pub mod Acting
+pub mod Allocations
+pub mod Closings
+pub mod Codes
+pub mod FirstMemory
 pub mod Heads
+pub mod Lists
+pub mod Memory
+pub mod Placed
+pub mod Printing
+pub mod RunLemmas
 pub mod SameEngines
 pub mod SameRuns
 pub mod SameStates
 pub mod SameThreads
 pub mod SameTurns
 pub mod SameUpdates
-mod UnderWay
-mod RunLemmas
+pub mod Starting
+pub mod Turning
+pub mod UnderWay

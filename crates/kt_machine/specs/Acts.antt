@@ -1,9 +1,11 @@
 -- What a machine does at its act, and what stays of it.
-use Rattle.std.specs.Prelude.{◌≡◌, List, ◌∷◌, slice_get}
+use Rattle.std.specs.Prelude.{◌≡◌, List, ◌∷◌, Bool, false, slice_get}
 use Rattle.kt_types.specs.Table.{Table}
+use Rattle.kt_mem.specs.declared.steps.Act.{Act}
 use Rattle.kt_mem.specs.declared.steps.Act.TheVariants as act
 use Rattle.kt_mem.specs.declared.steps.Reply.{Reply}
 use Rattle.kt_mem.specs.declared.steps.Reply.TheVariants.{Done, Got, Trapped}
+use Rattle.kt_mem.specs.Memory.{Memory, waits}
 use Rattle.kt_meaning.specs.Effects as plain
 use Rattle.kt_meaning.specs.Steps.{Step}
 use Rattle.kt_code.specs.Agreement.{IsReplyTo}
@@ -49,3 +51,8 @@ elsewhere_at e w th (head.Act act.ThreadEnd) = ends w 0 th act.ThreadEnd
 elsewhere_at e w th (head.Act (act.MainReturn n)) = ends w 0 th (act.MainReturn n)
 elsewhere_at e w th (head.Act a) = elsewhere e w 0 th a
 elsewhere_at e w th (head.Trap t) = w
+
+-- the act is a lock of a mutex that another thread than thread 0 holds
+abbrev pub waits_at : Memory → Act → Bool
+waits_at m (act.Lock p) = waits m 0 p
+waits_at m a = false

@@ -1,4 +1,5 @@
 pub mod Outside
+pub mod Printing
 pub mod Shared
 pub mod Engine
 pub mod Acts

@@ -123,20 +123,23 @@ impl Machine {
         ensures place { OnOk result (KeepsPlace self.old self.new) }
     {
         match &self.head {
-            Head::Act(Act::Create(_, _)) => self.reply(alloc, codes, Reply::Trapped(Trap::Threads)),
-            Head::Act(Act::Join(_)) => self.reply(alloc, codes, Reply::Trapped(Trap::Thread)),
-            Head::Act(Act::Point(_)) => self.come_to_point(alloc, codes),
-            Head::Act(Act::Automigrate) => self.automigrate(alloc, codes),
-            Head::Act(Act::ThreadEnd) => {
-                self.standing = Standing::Ended;
-                Ok(())
-            }
-            Head::Act(Act::MainReturn(n)) => {
-                let n = *n;
-                self.shared.end(End::Main(n));
-                Ok(())
-            }
-            _ => Ok(()),
+            Head::Act(act) => match act {
+                Act::Create(_, _) => self.reply(alloc, codes, Reply::Trapped(Trap::Threads)),
+                Act::Join(_) => self.reply(alloc, codes, Reply::Trapped(Trap::Thread)),
+                Act::Point(_) => self.come_to_point(alloc, codes),
+                Act::Automigrate => self.automigrate(alloc, codes),
+                Act::ThreadEnd => {
+                    self.standing = Standing::Ended;
+                    Ok(())
+                }
+                Act::MainReturn(value) => {
+                    let value = *value;
+                    self.shared.end(End::Main(value));
+                    Ok(())
+                }
+                _ => Ok(()),
+            },
+            Head::Trap(_) => Ok(()),
         }
     }
 

@@ -5,7 +5,8 @@ ghost use Rattle.kt_world.specs.Job as plain_job;
 ghost use Rattle.kt_world.specs.Plain.{job_of};
 
 use crate::entry::enter_main;
-use crate::globals::{first_heap, kept_values, new_point};
+use crate::first_heap::first_heap;
+use crate::globals::{kept_values, new_point};
 use crate::machine::{Machine, Standing, in_force};
 use kt_code::Head;
 use kt_exec::settle;
@@ -101,7 +102,8 @@ impl Machine {
                 Some(point) => self.restart(alloc, job, codes, old, new, point),
                 None => self.refuse(alloc, codes),
             },
-            Standing::Live | Standing::Ended => self.update(alloc, old, new),
+            Standing::Ended => self.update(alloc, old, new),
+            Standing::Live => Ok(()),
         }
     }
 

@@ -3,13 +3,18 @@
 #![tactic(auto)]
 
 mod acts;
+mod allocate;
 mod closing;
 mod effects;
 mod entry;
+mod first_heap;
+mod first_objects;
 mod globals;
 mod laws;
 mod machine;
+mod mutex;
 mod outside;
+mod print;
 mod shared;
 mod tried;
 mod turns;

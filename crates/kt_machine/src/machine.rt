@@ -6,7 +6,7 @@ ghost use Rattle.kt_world.specs.Turn as plain_turn;
 ghost use Rattle.kt_machine.specs.Engine.{code_engine, world_of, AreCodesOf, IsSettled};
 
 use crate::entry::enter_main;
-use crate::globals::first_heap;
+use crate::first_heap::first_heap;
 use crate::outside::Outside;
 use crate::shared::Shared;
 use kt_code::{Head, Private};

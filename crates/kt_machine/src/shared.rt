@@ -29,7 +29,7 @@ pub struct Shared {
 }
 
 impl Model for Shared {
-    ghost use Rattle.std.specs.Prelude.{◌+◌, ◌<◌, vec_len};
+    ghost use Rattle.std.specs.Prelude.{◌+◌, ◌<◌, ◌≤◌, vec_len};
     ghost use Rattle.kt_machine.specs.Shared as spec;
 
     ghost Value = { spec.Shared };
@@ -46,11 +46,11 @@ impl Model for Shared {
       ended = s.ended;
     } };
 
-    ghost invariant = { λ s. s.requests + vec_len s.after < 256 };
+    ghost invariant = { λ s. (s.requests + vec_len s.after < 256) × (vec_len s.kept ≤ 4294967296) };
 }
 
 impl Shared {
-    ghost use Rattle.std.specs.Prelude.{◌≡◌, ◌+◌, ◌<◌, ◌^◌, [], ◌∷◌, ◌++◌, IfOk, None, OnOk, Some, drop, length, vec_len};
+    ghost use Rattle.std.specs.Prelude.{◌≡◌, ◌+◌, ◌<◌, ◌≤◌, ◌^◌, [], ◌∷◌, ◌++◌, IfOk, None, OnOk, Some, drop, length, vec_len};
     ghost use Rattle.kt_heap.specs.Heap.{memory};
     ghost use Rattle.kt_meaning.specs.Effects as plain;
     ghost use Rattle.kt_machine.specs.Outside.{outcome_of, shown, HasCharLiterals, IsComplete};
@@ -233,6 +233,7 @@ impl Shared {
     ) -> Result<(), AllocError>
         requires version { self.old.version < 16 }
         requires literals { HasCharLiterals (memory heap) }
+        requires few { vec_len kept ≤ 4294967296 }
         ensures { OnOk result (shared_of self.new ≡ marked (Mark.Close self.old.turns self.old.requests (Closed.Ok 0)) (record (shared_of self.old) {
           version = self.old.version + 1;
           memory = memory heap;

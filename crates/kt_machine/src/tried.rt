@@ -13,6 +13,7 @@ use std::alloc::{AllocError, Global};
 ghost use Rattle.std.specs.Prelude.{◌≡◌};
 ghost use Rattle.kt_mem.specs.Memory.{waits};
 ghost use Rattle.kt_heap.specs.Heap.{memory};
+ghost use Rattle.kt_machine.specs.Acts.{waits_at};
 
 impl Machine {
     ghost use Rattle.std.specs.Prelude.{◌≡◌, ◌<◌, ◌≤◌, length, OnOk};
@@ -70,9 +71,20 @@ impl Machine {
             plain_turn.ongoing (λ w. plain_turn.all_back (code_engine codes) w.shared.phase w) (world_of self.old)) }
         ensures keeps { OnOk result (KeepsThread self.old self.new) }
     {
-        match (self.shared.ended(), self.shared.phase(), self.is_back()) {
-            (None, Phase::Others, true) => self.shared.mark_back(),
+        match (self.shared.ended(), self.shared.phase()) {
+            (None, Phase::Others) => self.mark_if_back(),
             _ => Ok(()),
+        }
+    }
+
+    fn mark_if_back(&mut self) -> Result<(), AllocError>
+        ensures world { OnOk result ((codes : _) → world_of self.new ≡ plain_turn.all_back (code_engine codes) Phase.Others (world_of self.old)) }
+        ensures keeps { OnOk result (KeepsThread self.old self.new) }
+    {
+        if self.is_back() {
+            self.shared.mark_back()
+        } else {
+            Ok(())
         }
     }
 
@@ -117,13 +129,26 @@ impl Machine {
         ensures world { OnOk result (world_of self.new ≡ plain_turn.ongoing (plain_turn.stuck (code_engine codes.now)) (world_of self.old)) }
         ensures keeps { OnOk result (KeepsThread self.old self.new) }
     {
-        match (self.shared.ended(), self.may_turn(codes)) {
-            (None, false) => self.shared.end_stuck(),
-            _ => Ok(()),
+        match self.shared.ended() {
+            None => self.end_unless_enabled(codes),
+            Some(_) => Ok(()),
         }
     }
 
-    fn may_turn(&self, codes: &[Compiled]) -> bool
+    fn end_unless_enabled(&mut self, codes: &[Compiled]) -> Result<(), AllocError>
+        requires { IsSettled codes.now self.old }
+        ensures world { OnOk result (world_of self.new ≡ plain_turn.stuck (code_engine codes.now) (world_of self.old)) }
+        ensures keeps { OnOk result (KeepsThread self.old self.new) }
+    {
+        if self.is_enabled(codes) {
+            Ok(())
+        } else {
+            self.shared.end_stuck()
+        }
+    }
+
+    // The thread may take a turn.
+    fn is_enabled(&self, codes: &[Compiled]) -> bool
         requires { IsSettled codes.now self.now }
         ensures { result ≡ plain_turn.any_enabled (code_engine codes.now) (shared_of self.now.shared) 0 (world_of self.now).threads }
     {
@@ -142,8 +167,8 @@ impl Machine {
     {
         let _codes = codes;
         match &self.head {
-            Head::Act(Act::Lock(pointer)) => is_held(self.shared.outside().heap(), *pointer),
-            _ => false,
+            Head::Act(act) => waits(self.shared.outside().heap(), act),
+            Head::Trap(_) => false,
         }
     }
 
@@ -156,6 +181,16 @@ impl Machine {
             None => self.shared.spend(job),
             Some(_) => Ok(()),
         }
+    }
+}
+
+// The act is a lock of a mutex that another thread than thread 0 holds.
+fn waits(heap: &Heap, act: &Act) -> bool
+    ensures { result ≡ waits_at (memory heap.now) act.now }
+{
+    match act {
+        Act::Lock(pointer) => is_held(heap, *pointer),
+        _ => false,
     }
 }
 
