@@ -203,4 +203,4 @@ pub automigrate-reply : (codes : List Pair) (m n : Machine) → n ≡ record m {
 automigrate-reply codes m n keeps is stands at_act =
     subst (λ (s : Step Private). IsReplyTo s Done)
     (sym (same-step codes m n (ap (λ (x : Machine). x.private) keeps) (ap (λ (s : Shared). s.version) is ∙ migrated-version m.private.mode (shared_of m.shared))))
-    (may-go_on m.head (step_of codes m) act.Automigrate (stands-at (slice_get codes m.shared.version) m.private m.head stands) at_act refl (tt, tt))
+    (may-go_on m.head (step_of codes m) act.Automigrate (stands-at (slice_get codes m.shared.version) m.private m.head stands) at_act refl (refl, tt))

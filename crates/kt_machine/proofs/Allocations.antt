@@ -1,13 +1,12 @@
 -- What an allocation answers.
-use Rattle.std.proofs.Common.{◌≡◌, ℕ, ℤ, pos, Bool, List, length, None, Some, Option, Result, Ok, Err, refl, sym, ◌∙◌, ap}
+use Rattle.std.proofs.Common.{◌≡◌, ℕ, ℤ, pos, Bool, List, length, None, Result, Ok, Err, sym, ◌∙◌, ap}
 use Rattle.kt_types.specs.declared.kinds.Ty.{Ty}
 use Rattle.kt_mem.specs.declared.memory.Name.TheVariants.{Heap}
 use Rattle.kt_mem.specs.declared.memory.Value.TheVariants.{Ptr}
-use Rattle.kt_mem.specs.declared.steps.Reply.{Reply}
 use Rattle.kt_mem.specs.declared.steps.Reply.TheVariants.{Got, Trapped}
 use Rattle.kt_mem.specs.declared.steps.Trap.{Trap}
 use Rattle.kt_mem.specs.Memory.{Memory, alloc, alloc_fault, fresh_object, made, next_pointer, unless_fault}
-use Rattle.kt_meaning.specs.Effects.{Outcome, Shared, Replies, makes}
+use Rattle.kt_meaning.specs.Effects.{Shared, Replies, makes}
 
 pub failed-makes : (s : Shared) (m : Memory) (r : Result Memory Trap) (t : Trap) → r ≡ Err t →
     makes (record s { memory = m }) r ≡ Replies (Trapped t) (record s { memory = m })
@@ -19,7 +18,7 @@ pub made-makes : (s : Shared) (m new : Memory) (ty : ℕ) (types : List Ty) (cou
 made-makes s m new ty types count n a zeros number fault next is =
     let object = fresh_object m.next ty types n zeros in
     let there : alloc m ty types count zeros ≡ Ok (made m m.next object) =
-      ap (λ z. alloc m ty types z zeros) number ∙ ap (λ f. unless_fault f (made m m.next object)) fault in
+    ap (λ z. alloc m ty types z zeros) number ∙ ap (λ f. unless_fault f (made m m.next object)) fault in
     let same : made m m.next object ≡ new = sym (is ∙ ap (λ k. made m k object) next) in
     ap (makes (record s { memory = m })) there
     ∙ ap (λ x. Replies (Got (next_pointer m)) (record s { memory = x })) same

@@ -50,8 +50,8 @@ module _ (codes : List Pair) (old new : Program) (m n : Machine) where
   abbrev the_engine : Engine Private
   the_engine = code_engine codes
 
-  abbrev as : declared.Standing → World Private
-  as s = record { shared = shared_of m.shared; threads = record { state = m.private; standing = standing_of s } ∷ [] }
+  abbrev as_if : declared.Standing → World Private
+  as_if s = record { shared = shared_of m.shared; threads = record { state = m.private; standing = standing_of s } ∷ [] }
 
   abbrev found : Option ℕ
   found = option_and_then (new_point old new) (old_point m.head)
@@ -62,15 +62,15 @@ module _ (codes : List Pair) (old new : Program) (m n : Machine) where
   pub decided-restart : m.standing ≡ standing.Parked → IsStepAt m.head (step_of codes m) → (q : Option ℕ) (p : ℕ) → q ≡ found → q ≡ Some p →
       world_of n ≡ with_restart the_engine old new p (world_of m) → world_of n ≡ closed_between the_engine (Some old) (Some new) (world_of m)
   decided-restart parked k q p is some after =
-      after ∙ ap (λ s. with_restart the_engine old new p (as s)) parked
-      ∙ sym (ap (λ s. closed_between the_engine (Some old) (Some new) (as s)) parked
+      after ∙ ap (λ s. with_restart the_engine old new p (as_if s)) parked
+      ∙ sym (ap (λ s. closed_between the_engine (Some old) (Some new) (as_if s)) parked
       ∙ closed-restart the_engine old new (shared_of m.shared) m.private p (point-found k q is ∙ some))
 
   pub decided-refuse : m.standing ≡ standing.Parked → IsStepAt m.head (step_of codes m) → (q : Option ℕ) → q ≡ found → q ≡ None →
       world_of n ≡ refused the_engine 0 (world_of m) → world_of n ≡ closed_between the_engine (Some old) (Some new) (world_of m)
   decided-refuse parked k q is none after =
-      after ∙ ap (λ s. refused the_engine 0 (as s)) parked
-      ∙ sym (ap (λ s. closed_between the_engine (Some old) (Some new) (as s)) parked
+      after ∙ ap (λ s. refused the_engine 0 (as_if s)) parked
+      ∙ sym (ap (λ s. closed_between the_engine (Some old) (Some new) (as_if s)) parked
       ∙ closed-refuse the_engine old new (shared_of m.shared) m.private (point-found k q is ∙ none))
 
   pub decided-ended : m.standing ≡ standing.Ended → shared_of n.shared ≡ (updated the_engine old new (world_of m)).shared →
@@ -78,8 +78,8 @@ module _ (codes : List Pair) (old new : Program) (m n : Machine) where
   decided-ended ended is keeps =
       ap world_of keeps
       ∙ ap (λ (s : Shared). record { shared = s; threads = record { state = m.private; standing = standing_of m.standing } ∷ [] }) is
-      ∙ ap (λ s. record { shared = (updated the_engine old new (as s)).shared; threads = record { state = m.private; standing = standing_of s } ∷ [] }) ended
-      ∙ sym (ap (λ s. closed_between the_engine (Some old) (Some new) (as s)) ended)
+      ∙ ap (λ s. record { shared = (updated the_engine old new (as_if s)).shared; threads = record { state = m.private; standing = standing_of s } ∷ [] }) ended
+      ∙ sym (ap (λ s. closed_between the_engine (Some old) (Some new) (as_if s)) ended)
 
   abbrev restarted_with : Shared → Private → World Private
   restarted_with s x = record { shared = s; threads = record { state = x; standing = Live } ∷ [] }

@@ -5,6 +5,7 @@ pub mod Codes
 pub mod FirstMemory
 pub mod Heads
 pub mod Lists
+pub mod MainEntry
 pub mod Memory
 pub mod Placed
 pub mod Printing
@@ -16,5 +17,6 @@ pub mod SameThreads
 pub mod SameTurns
 pub mod SameUpdates
 pub mod Starting
+pub mod Trying
 pub mod Turning
 pub mod UnderWay

@@ -33,7 +33,9 @@ pub fn effect(
     ensures kept { IfOk result (λ o. (o ≡ Outcome.Waits → shown outside.new ≡ shown outside.old) × (o ≡ Outcome.Elsewhere → shown outside.new ≡ shown outside.old)) }
 {
     match act {
-        Act::Tick | Act::MigrateLocal(..) | Act::UpdatingTest(_) => Ok(Outcome::Replies(Reply::Done)),
+        Act::Tick | Act::MigrateLocal(..) | Act::UpdatingTest(_) => {
+            Ok(Outcome::Replies(Reply::Done))
+        }
         Act::Load(p, ty) => Ok(Outcome::Replies(outside.load(*p, *ty))),
         Act::Store(p, ty, v) => Ok(Outcome::Replies(outside.store(*p, *ty, *v))),
         Act::Allocate(ty, count, zero) => {

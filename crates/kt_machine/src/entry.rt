@@ -1,7 +1,6 @@
 //! The state at which `main` begins.
-ghost use Rattle.std.specs.Prelude.{◌≡◌, [], Some, IfOk, replicate};
+ghost use Rattle.std.specs.Prelude.{◌≡◌, [], Some, IfOk, slice_get};
 ghost use Rattle.std.specs.Option.{option_map};
-ghost use Rattle.kt_mem.specs.declared.memory.Value.TheVariants as value;
 ghost use Rattle.kt_tree.specs.Tree.{function_of};
 ghost use Rattle.kt_meaning.specs.ThreadTypes.{IsMode};
 ghost use Rattle.kt_code.specs.Settling.{Fits};
@@ -9,7 +8,7 @@ ghost use Rattle.kt_pair.specs.VersionActs.{entry_state};
 ghost use Rattle.kt_world.specs.Turn.{main_of, restart_in};
 ghost use Rattle.kt_machine.specs.Engine.{code_entry, no_frames};
 
-use kt_code::{Frame, Frames, Operands, Private};
+use kt_code::{Code, Frame, Frames, Operands, Private};
 use kt_mem::{KeptLocals, Mode, Value, Values};
 use kt_pair::{Compiled, compiled_law};
 use kt_tree::{Fun, Version, version_law};
@@ -31,8 +30,8 @@ pub fn enter_main(
     let Some((number, function)) = main_of(compiled.version()) else {
         return Ok(no_frames(alloc, v, mode));
     };
-    match compiled.code().entries().get(number as usize) {
-        Some(at) => entry_state(alloc, v, *at, number, function, mode),
+    match entry(compiled.code(), number) {
+        Some(at) => entry_state(alloc, v, at, number, function, mode),
         None => Ok(no_frames(alloc, v, mode)),
     }
 }
@@ -44,6 +43,13 @@ fn main_of(version: &Version) -> Option<(u32, &Fun)>
     let number = version.function(b"main")?;
     let function = version.functions().get(number as usize)?;
     Some((number, function))
+}
+
+/// Where the code of a function begins.
+fn entry(code: &Code, number: u32) -> Option<u32>
+    ensures { result ≡ slice_get code.now.entries number }
+{
+    code.entries().get(number as usize).copied()
 }
 
 /// The state at the entry of a function without parameters, whose code begins at this place.

@@ -36,7 +36,7 @@ returns-in-Ok-clause-made c s =
     let new = memory c.alloc.new.self in
     let number = sym (to_z-of_z w64 c.args.count c.ranges.count) ∙ c.in-Some.ensures.some in
     let made = made-makes s m new c.args.ty c.as_slice.result.now c.args.count c.in-Some.count c.in-Ok.a c.args.zero number
-      c.in-Ok.ensures.room c.in-Ok.ensures.number c.in-Ok.ensures.made in
+    c.in-Ok.ensures.room c.in-Ok.ensures.number c.in-Ok.ensures.made in
     subst (λ types. makes (record s { memory = m }) (alloc m c.args.ty types c.args.count c.args.zero) ≡ Replies (Got (Ptr (Heap c.in-Ok.a) 0)) (record s { memory = new }))
     (c.as_slice.ensures.value ∙ c.in_ok-cells.ensures.cells) made
 

@@ -1,4 +1,4 @@
-use Rattle.std.proofs.Common.{◌≡◌, ℕ, [], sym, ◌∙◌, ap, subst}
+use Rattle.std.proofs.Common.{◌≡◌, ℕ, [], refl, sym, ◌∙◌, ap, subst}
 use Rattle.kt_mem.specs.Memory.{Memory}
 use Rattle.kt_heap.specs.Heap.{memory}
 use Rattle.kt_world.specs.Update.{first_memory}

@@ -1,4 +1,17 @@
+use Rattle.std.proofs.Common.{None, get_or, ◌∙◌, ap}
+use Rattle.kt_mem.specs.Memory.{Memory}
+use Rattle.kt_heap.specs.Heap.{memory}
+use Rattle.kt_world.specs.Update.{placed_one}
+use Rattle.kt_machine.proofs.Placed.{placed-next}
 use Rattle.kt_machine.proofs.globals.place.Goals as goal
 
-pub returns-clause-placed : goal.returns-clause-placed
-returns-clause-placed c = ?
+pub loop-i-preserved : goal.loop-i-preserved
+loop-i-preserved c =
+    let kept = c.args.kept.now in
+    let i = c.loop-i.i in
+    record {
+      memory = c.place_one.ensures.placed
+        ∙ ap (λ (m : Memory). placed_one i (get_or kept i None) m) c.loop-i.invariant.memory
+        ∙ placed-next kept i (memory c.args.heap.now) c.loop-i-test.true;
+      given = c.place_one.ensures.given ∙ c.loop-i.invariant.given;
+    }

@@ -1,8 +1,11 @@
-use Rattle.std.proofs.Common.{ap, slice_get}
+use Rattle.std.proofs.Common.{◌+◌, ◌<◌, sym, subst, ap, length, slice_get}
+use Rattle.kt_world.specs.Plain.{job_of}
 use Rattle.kt_world.specs.Turn.{has_ended}
+use Rattle.kt_world.specs.World.{Shared}
 use Rattle.kt_machine.specs.Engine.{standing_of}
 use Rattle.kt_machine.proofs.Acting.{on-ok}
 use Rattle.kt_machine.proofs.Closings.{decided-restart, decided-refuse, decided-ended}
+use Rattle.kt_machine.proofs.Codes.{code-within}
 use Rattle.kt_machine.proofs.Heads.{stands-at}
 use Rattle.kt_machine.proofs.machine.Machine.decide.Goals as goal
 
@@ -34,4 +37,8 @@ returns-in-Ended-clause-world c =
     c.update.ensures.shared
 
 pub returns-in-Ended-clause-version : goal.returns-in-Ended-clause-version
-returns-in-Ended-clause-version c = ?
+returns-in-Ended-clause-version c =
+    let v = c.args.self.now.shared.version in
+    let within = code-within (job_of c.args.job.now) c.args.codes.now c.requires.codes (v + 1) c.args.new.now c.requires.new in
+    on-ok c.update.result (λ shared. subst (λ k. k < length c.args.codes.now) (sym (ap (λ (s : Shared). s.version) (shared c.args.codes.now))) within)
+    c.update.ensures.shared

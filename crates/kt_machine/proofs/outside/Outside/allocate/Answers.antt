@@ -16,8 +16,8 @@ returns c =
     let old : Shared = record { memory = m; input = drop c.self.inside.read c.self.inside.input.items; output = c.self.inside.output.items } in
     let new : Shared = record old { memory = memory c.allocate.new.heap } in
     IfOk-weaker c.allocate.result
-    (λ (r : Reply). (s : Shared) → makes (record s { memory = m }) (alloc (m) c.args.ty types (to_z w64 (of_z w64 c.args.count)) c.args.zero) ≡ Replies r (record s { memory = memory c.allocate.new.heap }))
+    (λ (r : Reply). (s : Shared) → makes (record s { memory = m }) (alloc m c.args.ty types (to_z w64 (of_z w64 c.args.count)) c.args.zero) ≡ Replies r (record s { memory = memory c.allocate.new.heap }))
     (λ (r : Reply). makes (shown c.args.self.now) (alloc (memory c.args.self.now.heap) c.args.ty types c.args.count c.args.zero) ≡ Replies r new)
     (λ r h. subst (λ (o : Outside). makes (shown o) (alloc (memory o.heap) c.args.ty types c.args.count c.args.zero) ≡ Replies r new) c.self.view_is
-      (subst (λ (z : ℤ). makes old (alloc m c.args.ty types z c.args.zero) ≡ Replies r new) (to_z-of_z w64 c.args.count c.ranges.count) (h old)))
+    (subst (λ (z : ℤ). makes old (alloc m c.args.ty types z c.args.zero) ≡ Replies r new) (to_z-of_z w64 c.args.count c.ranges.count) (h old)))
     c.allocate.ensures.made
