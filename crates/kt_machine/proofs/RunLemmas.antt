@@ -75,7 +75,7 @@ fewer a b h tells = elim (eqb_tells a b) [ inl is ↦ absurd cc | inr is_not ↦
 -- ---- the machine
 
 module _ (job : Job) (codes : List Pair) (are : AreCodesOf job codes) (typed : IsTypedJob job) where
-  pub codes-length : length codes ≡ length job.versions
+  codes-length : length codes ≡ length job.versions
   codes-length = sym (length-map codes (λ c. c.program)) ∙ ap length are.versions
 
   module _ (m : Machine) (r : IsUnderWay job codes m) where
@@ -99,7 +99,7 @@ module _ (job : Job) (codes : List Pair) (are : AreCodesOf job codes) (typed : I
           let inner = and_parts _ _ outer.0 in
           lives m.standing inner.0
 
-      pub few-left : m.shared.turns < job.budget
+      few-left : m.shared.turns < job.budget
       few-left = fewer m.shared.turns job.budget r.few (r.going on).unspent
 
       may_turn : MayTurn (tree_engine job) (after job m.shared.turns) 0
