@@ -18,7 +18,7 @@ use Rattle.kt_check.specs.Statements.{contains}
 use Rattle.kt_check.specs.Views.{latest_first}
 use Rattle.kt_check.specs.Files.{Frame, Sofar, OneField, Within, outside, is_array_count, field_cells, fields_in, field_info, field_decl, pointer_inside}
 use Rattle.kt_check.specs.Shapes.{infos_of, Grows, size_parts, field_parts}
-use Rattle.kt_check.proofs.Heads.{any-append}
+use Rattle.kt_check.proofs.Inserted.{any-append}
 use Rattle.kt_check.proofs.Right.{both-right, holds-right, both-true, not-true}
 use Rattle.kt_check.proofs.Visibles.{latest-push}
 

@@ -17,7 +17,7 @@ use Rattle.kt_check.specs.Statements.{contains}
 use Rattle.kt_check.specs.Latest.{latest_first, place_of, kept_under, TellHidden, Keeps}
 use Rattle.kt_check.specs.Scopes.{names_of}
 use Rattle.kt_check.specs.Views.{visible_of}
-use Rattle.kt_check.proofs.Heads.{lookup-inserted}
+use Rattle.kt_check.proofs.Inserted.{lookup-inserted}
 use Rattle.kt_check.proofs.Visibles.{latest-push}
 
 -- ---- lists, the latest first

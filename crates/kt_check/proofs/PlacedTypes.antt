@@ -9,7 +9,7 @@ use Rattle.kt_check.specs.declared.ctype.Root.{Root}
 use Rattle.kt_check.specs.contracts.ctype.RootPartialEq.TheImpl.{eq-value}
 use Rattle.kt_check.specs.Types.{same_root, starred_place}
 use Rattle.kt_check.specs.Placed.{AreStarred, AreAllStarred}
-use Rattle.kt_check.proofs.Heads.{same-root}
+use Rattle.kt_check.proofs.Roots.{same-root}
 
 -- one place more
 pub starred-push : (types : List Ty) (r : Root) (places : List ℕ) (p : ℕ) → AreStarred types r places → p ≡ starred_place types r (length places) → AreStarred types r (places ++ p ∷ [])
