@@ -5,16 +5,16 @@ use Rattle.std.specs.Str.{bytes_eq}
 use Rattle.std.proofs.lemmas.Bool.Decides.{Decides-eqb}
 use Rattle.std.proofs.lemmas.List.{map-append}
 use Rattle.kt_syntax.specs.Tree.{Routine, routine_of}
-use Rattle.kt_check.specs.declared.ctype.CType.{CType}
+use Rattle.kt_names.specs.declared.ctype.CType.{CType}
 use Rattle.kt_check.specs.declared.sofar.Head.{Head}
-use Rattle.kt_check.proofs.Inserted.{same, flip, any-append}
-use Rattle.kt_check.proofs.Roots.{same-root}
-use Rattle.kt_check.specs.Types.{same_root, same_ctype}
-use Rattle.kt_check.specs.Tables.{result_type, parameter_types}
-use Rattle.kt_check.specs.Statements.{contains}
-use Rattle.kt_check.specs.Functions.{same_types, same_result, same_function, is_defined, is_other_type, agrees}
-use Rattle.kt_check.specs.declared.fault.CheckFault.TheVariants.{Twice, BadType}
-use Rattle.kt_check.specs.Checked.{Checked, fault, holds}
+use Rattle.kt_names.proofs.Inserted.{same, flip, any-append}
+use Rattle.kt_names.proofs.Roots.{same-root}
+use Rattle.kt_names.specs.Types.{same_root, same_ctype}
+use Rattle.kt_names.specs.Tables.{result_type, parameter_types}
+use Rattle.kt_names.specs.Statements.{contains}
+use Rattle.kt_names.specs.Functions.{same_types, same_result, same_function, is_defined, is_other_type, agrees}
+use Rattle.kt_names.specs.declared.fault.CheckFault.TheVariants.{Twice, BadType}
+use Rattle.kt_names.specs.Checked.{Checked, fault, holds}
 use Rattle.kt_check.specs.Stages.{is_head_defined, is_other_head, first_routine}
 
 -- ---- types
