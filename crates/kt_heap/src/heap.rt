@@ -94,6 +94,7 @@ impl Heap {
         requires numbers { (memory self.old).next < 9223372036854775807 }
         requires addresses { length (given self.old) < 4294967296 }
         ensures made { IfOk result (λ a. memory self.new ≡ made (memory self.old) a (fresh_object (memory self.old).next ty cells.now count zero)) }
+        ensures number { IfOk result (λ a. a ≡ (memory self.old).next) }
         ensures pair { IfOk result (λ a. given self.new ≡ given self.old ++ (a, (memory self.old).next) ∷ []) }
         ensures fresh { IfOk result (λ a. IsNew (given self.old) a) }
         ensures unused { IfOk result (λ a. (memory self.old).at (name.Heap a) ≡ None) }

@@ -1,7 +1,8 @@
 -- The engine of the machine: threads run the code of the version in force. A machine as a world.
-use Rattle.std.specs.Prelude.{◌≡◌, ℕ, ◌<◌, List, [], ◌∷◌, length, map, Option, Some, None, slice_get}
+use Rattle.std.specs.Prelude.{◌≡◌, false, ℕ, ◌<◌, List, [], ◌∷◌, length, map, Option, Some, None, slice_get}
 use Rattle.std.specs.List.{AllByRecursion}
 use Rattle.kt_types.specs.Table.{Table}
+use Rattle.kt_mem.specs.declared.steps.Act.TheVariants as act
 use Rattle.kt_mem.specs.declared.steps.Trap.TheVariants as trap
 use Rattle.kt_mem.specs.declared.thread.Mode.{Mode}
 use Rattle.kt_tree.specs.Tree.{Function}
@@ -16,7 +17,7 @@ use Rattle.kt_code.specs.declared.private.Private.{Private}
 use Rattle.kt_pair.specs.Pair.{Pair}
 use Rattle.kt_pair.specs.VersionActs.{DoesVersion, FitsEntries, entry_state}
 use Rattle.kt_world.specs.Job.{Job, types_at}
-use Rattle.kt_world.specs.Turn.{main_of, restart_in}
+use Rattle.kt_world.specs.Turn.{has_ended, main_of, restart_in}
 use Rattle.kt_world.specs.World.{Engine, Standing, Thread, World, outside_of}
 use Rattle.kt_world.specs.World as world
 use Rattle.kt_machine.specs.declared.machine.Machine.{Machine}
@@ -89,9 +90,15 @@ pub record StandsAt (c : Option Pair) (x : Private) (h : Head) : Type 0 where
   pub head : settling.head_of (code_step c x) ≡ Some h
   pub fits : (p : Pair) → c ≡ Some p → settling.Fits p.code x
 
--- what a machine's thread stands at is what it keeps
-abbrev pub IsSettled : List Pair → Machine → Type 0
-IsSettled codes m = StandsAt (slice_get codes m.shared.version) m.private m.head
+-- the thread stands at a point
+abbrev pub IsPointHead : Head → Type 0
+IsPointHead (head.Act (act.Point p)) = Unit {0}
+IsPointHead h = ⊥
+
+-- what a machine's thread stands at is what it keeps, unless the thread has ended; where it is parked, that is a point
+pub record IsSettled (codes : List Pair) (m : Machine) : Type 0 where
+  pub stands : has_ended (standing_of m.standing) ≡ false → StandsAt (slice_get codes m.shared.version) m.private m.head
+  pub parked : m.standing ≡ standing.Parked → IsPointHead m.head
 
 abbrev pub IsCompleteHead : Table → Head → Type 0
 IsCompleteHead types (head.Act a) = IsComplete types a

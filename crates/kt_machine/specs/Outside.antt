@@ -1,5 +1,5 @@
 -- What acts on memory, input and output touch, as the machine keeps it: the heap, the rest of the input, the output.
-use Rattle.std.specs.Prelude.{◌≡◌, ℕ, List, Some}
+use Rattle.std.specs.Prelude.{◌≡◌, ℕ, true, List, Some, Result, Ok, Err}
 use Rattle.std.specs.List.{AllByRecursion}
 use Rattle.std.specs.Option.{is_some}
 use Rattle.kt_types.specs.declared.kinds.Ty.TheVariants as ty
@@ -7,7 +7,11 @@ use Rattle.kt_types.specs.Layout.{layout}
 use Rattle.kt_types.specs.Table.{Table}
 use Rattle.kt_mem.specs.declared.memory.Name.TheVariants.{Lit}
 use Rattle.kt_mem.specs.declared.steps.Act.{Act}
+use Rattle.kt_mem.specs.declared.memory.Value.{Value}
 use Rattle.kt_mem.specs.declared.steps.Act.TheVariants as act
+use Rattle.kt_mem.specs.declared.steps.Reply.{Reply}
+use Rattle.kt_mem.specs.declared.steps.Reply.TheVariants.{Done, Got, Trapped}
+use Rattle.kt_mem.specs.declared.steps.Trap.{Trap}
 use Rattle.kt_mem.specs.Memory.{Memory, Object}
 use Rattle.kt_heap.specs.Heap as heap
 use Rattle.kt_meaning.specs.Effects as plain
@@ -37,3 +41,24 @@ abbrev pub outcome_of : Outcome → plain.Shared → plain.Outcome
 outcome_of (outcome.Replies r) s = plain.Replies r s
 outcome_of outcome.Waits s = plain.Waits
 outcome_of outcome.Elsewhere s = plain.Elsewhere
+
+-- ---- acts on memory
+
+-- each literal stays as it is
+abbrev pub KeepsLiterals : Memory → Memory → Type 0
+KeepsLiterals old new = (v i : ℕ) → new.at (Lit v i) ≡ old.at (Lit v i)
+
+-- the memory that an act leaves, or its trap
+abbrev pub left_by : {A : Type 0} → Result A Trap → Memory → Result Memory Trap
+left_by (Ok x) m = Ok m
+left_by (Err t) m = Err t
+
+-- the reply to an act that gives no value
+abbrev pub done : {A : Type 0} → Result A Trap → Reply
+done (Ok x) = Done
+done (Err t) = Trapped t
+
+-- the reply to an act that gives a value
+abbrev pub given : Result Value Trap → Reply
+given (Ok v) = Got v
+given (Err t) = Trapped t

@@ -33,7 +33,27 @@ pub fn effect(
     ensures kept { IfOk result (λ o. (o ≡ Outcome.Waits → shown outside.new ≡ shown outside.old) × (o ≡ Outcome.Elsewhere → shown outside.new ≡ shown outside.old)) }
 {
     match act {
-        Act::Tick => Ok(Outcome::Replies(Reply::Done)),
-        _ => Err(AllocError),
+        Act::Tick | Act::MigrateLocal(..) | Act::UpdatingTest(_) => Ok(Outcome::Replies(Reply::Done)),
+        Act::Load(p, ty) => Ok(Outcome::Replies(outside.load(*p, *ty))),
+        Act::Store(p, ty, v) => Ok(Outcome::Replies(outside.store(*p, *ty, *v))),
+        Act::Allocate(ty, count, zero) => {
+            let reply = outside.allocate(alloc, types, *ty, *count, *zero)?;
+            Ok(Outcome::Replies(reply))
+        }
+        Act::Release(p) => Ok(Outcome::Replies(outside.release(*p))),
+        Act::Lock(p) => Ok(outside.lock(thread, *p)),
+        Act::Unlock(p) => Ok(Outcome::Replies(outside.unlock(thread, *p))),
+        Act::InitMutex(p) => Ok(Outcome::Replies(outside.init_mutex(*p))),
+        Act::GetChar => Ok(Outcome::Replies(outside.next_byte())),
+        Act::Print(pieces) => {
+            let reply = outside.print(pieces.as_slice())?;
+            Ok(Outcome::Replies(reply))
+        }
+        Act::Create(..)
+        | Act::Join(_)
+        | Act::Point(_)
+        | Act::Automigrate
+        | Act::ThreadEnd
+        | Act::MainReturn(_) => Ok(Outcome::Elsewhere),
     }
 }

@@ -1,21 +1,16 @@
-//! The globals of versions: the heap with which a version begins, what an update keeps of the old ones, and points by name.
-ghost use Rattle.std.specs.Prelude.{◌≡◌, [], IfOk};
+//! What an update carries over by name: the values of globals, and points.
+ghost use Rattle.std.specs.Prelude.{◌≡◌, ◌<◌, ◌≤◌, length, IfOk, IfSome};
 ghost use Rattle.kt_heap.specs.Heap.{memory, given};
 ghost use Rattle.kt_world.specs.Update as plain;
 
 use kt_heap::Heap;
-use kt_mem::Value;
-use kt_tree::Version;
+use kt_mem::{Name, Value};
+use kt_tree::{GlobalDecl, Version, version_law};
+use kt_types::Ty;
 use std::alloc::{AllocError, Global};
 
-/// The heap with which a program begins that is version `v`: its globals with their initial values, its string literals,
-/// and no heap object. The next heap number is `next`.
-pub fn first_heap(alloc: Global, v: u8, version: &Version, next: u64) -> Result<Heap, AllocError>
-    ensures memory { IfOk result (λ heap. memory heap ≡ plain.first_memory v version.now next) }
-    ensures given { IfOk result (λ heap. given heap ≡ []) }
-{
-    Err(AllocError)
-}
+/// The place of `int` in every table of types.
+const INT_TYPE: u32 = 1;
 
 /// What an update keeps for the new version's globals.
 pub fn kept_values(
@@ -24,22 +19,78 @@ pub fn kept_values(
     heap: &Heap,
     new: &Version,
 ) -> Result<Vec<Option<Value>>, AllocError>
-    ensures { IfOk result (λ kept. kept.items ≡ plain.kept_values old.now (memory heap.now) new.now) }
+    ensures values { IfOk result (λ kept. kept.items ≡ plain.kept_values old.now (memory heap.now) new.now) }
+    ensures few { IfOk result (λ kept. length kept.items ≤ 4294967296) }
 {
-    Err(AllocError)
+    version_law(new);
+    new.globals()
+        .iter()
+        .map(|global| kept_value(old, heap, global))
+        .collect(alloc)
 }
 
 /// Stores the kept values, each into the global of its number.
 pub fn place(heap: &mut Heap, kept: &[Option<Value>])
+    requires { length kept.now ≤ 4294967296 }
     ensures placed { memory heap.new ≡ plain.placed kept.now (memory heap.old) }
     ensures given { given heap.new ≡ given heap.old }
 {
+    for (i, value) in kept.iter().enumerate() {
+        place_one(heap, i as u32, *value);
+    }
 }
 
 /// The point of the new version with the name of this point of the old one.
 pub fn new_point(old: &Version, new: &Version, point: u32) -> Option<u32>
-    ensures { result ≡ plain.new_point old.now new.now point }
+    ensures place { result ≡ plain.new_point old.now new.now point }
+    ensures within { IfSome result (λ place. place < new.now.points.updates) }
 {
-    let _ = (old, new, point);
-    None
+    let name = old.points().as_slice().get(point as usize)?;
+    new.point(name.as_bytes())
+}
+
+/// What is kept for a global of the new version.
+fn kept_value(old: &Version, heap: &Heap, global: &GlobalDecl) -> Option<Value>
+    ensures { result ≡ plain.kept_value old.now (memory heap.now) global.now }
+{
+    let number = old_global(old, global)?;
+    heap.load(Value::Ptr(Name::Glob(number), 0), Ty::Int).ok()
+}
+
+/// The old global to which a new one corresponds.
+fn old_global(old: &Version, global: &GlobalDecl) -> Option<u32>
+    ensures { result ≡ plain.old_global old.now global.now }
+{
+    if !is_int(global) {
+        return None;
+    }
+    let number = old.global(global.name.as_bytes())?;
+    int_at(old.globals(), number)
+}
+
+/// This number, where its global is of type `int`.
+fn int_at(globals: &[GlobalDecl], number: u32) -> Option<u32>
+    ensures { result ≡ plain.int_at globals.now number }
+{
+    match globals.get(number as usize) {
+        Some(global) if is_int(global) => Some(number),
+        _ => None,
+    }
+}
+
+/// Whether the global is of type `int`, and no array.
+fn is_int(global: &GlobalDecl) -> bool
+    ensures { result ≡ plain.is_int global.now }
+{
+    global.ty == INT_TYPE && !global.array
+}
+
+/// Stores a kept value into the global of this number. Where it can't be stored, nothing changes.
+fn place_one(heap: &mut Heap, i: u32, kept: Option<Value>)
+    ensures placed { memory heap.new ≡ plain.placed_one i kept (memory heap.old) }
+    ensures given { given heap.new ≡ given heap.old }
+{
+    if let Some(value) = kept {
+        let _ = heap.store(Value::Ptr(Name::Glob(i), 0), Ty::Int, value);
+    }
 }

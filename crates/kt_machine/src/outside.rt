@@ -1,19 +1,25 @@
 //! What acts on memory, input and output touch.
-ghost use Rattle.std.specs.Prelude.{◌≡◌, [], length};
+ghost use Rattle.std.specs.Prelude.{◌≡◌};
+ghost use Rattle.kt_machine.specs.Outside.{done, given};
 
+use crate::allocate::allocate;
+use crate::effects::Outcome;
 use crate::globals::place;
+use crate::mutex::{init, lock, unlock, waits};
+use crate::print::print;
 use kt_heap::Heap;
-use kt_mem::Value;
-use std::alloc::Global;
+use kt_mem::{Piece, Reply, Trap, Value};
+use kt_types::{Ty, TypeTable};
+use std::alloc::{AllocError, Global};
 use std::marker::Model;
 
 /// The heap, the input with the place up to which it is read, and the output.
 #[derive(Drop)]
 pub struct Outside {
-    pub(crate) heap: Heap,
-    pub(crate) input: Vec<u8>,
-    pub(crate) read: usize,
-    pub(crate) output: Vec<u8>,
+    heap: Heap,
+    input: Vec<u8>,
+    read: usize,
+    output: Vec<u8>,
 }
 
 impl Model for Outside {
@@ -29,9 +35,13 @@ impl Model for Outside {
 }
 
 impl Outside {
-    ghost use Rattle.std.specs.Prelude.{◌≡◌, []};
+    ghost use Rattle.std.specs.Option.{is_some};
+    ghost use Rattle.std.specs.Prelude.{◌≡◌, ◌≢◌, ◌≤◌, [], true, length, IfOk, if◌then◌else◌};
     ghost use Rattle.kt_heap.specs.Heap.{memory};
-    ghost use Rattle.kt_machine.specs.Outside.{shown, HasCharLiterals};
+    ghost use Rattle.kt_meaning.specs.Effects as plain;
+    ghost use Rattle.kt_mem.specs.Memory as mem;
+    ghost use Rattle.kt_types.specs.Layout.{cells, layout};
+    ghost use Rattle.kt_machine.specs.Outside.{done, given, outcome_of, shown, HasCharLiterals};
     ghost use Rattle.kt_world.specs.Update.{placed};
 
     /// This heap and this input, and no output.
@@ -64,9 +74,94 @@ impl Outside {
 
     /// Stores the kept values, each into the global of its number.
     pub fn place(&mut self, kept: &[Option<Value>])
+        requires { length kept.now ≤ 4294967296 }
         ensures { shown self.new ≡ record (shown self.old) { memory = placed kept.now (memory self.old.heap) } }
     {
         place(&mut self.heap, kept);
+    }
+
+    /// What the cell at a pointer holds.
+    pub fn load(&self, p: Value, ty: Ty) -> Reply
+        ensures { plain.reads (shown self.now) (mem.load (memory self.now.heap) p ty) ≡ plain.Replies result (shown self.now) }
+    {
+        given(self.heap.load(p, ty))
+    }
+
+    /// Writes a value into the cell at a pointer.
+    pub fn store(&mut self, p: Value, ty: Ty, v: Value) -> Reply
+        ensures { plain.leaves (shown self.old) (mem.store (memory self.old.heap) p ty v) ≡ plain.Replies result (shown self.new) }
+    {
+        done(self.heap.store(p, ty, v))
+    }
+
+    /// Makes a heap object.
+    pub fn allocate(
+        &mut self,
+        alloc: Global,
+        types: &TypeTable,
+        ty: u32,
+        count: i64,
+        zero: bool,
+    ) -> Result<Reply, AllocError>
+        requires { is_some (layout types.now ty) ≡ true }
+        ensures { IfOk result (λ r. plain.makes (shown self.old) (mem.alloc (memory self.old.heap) ty (cells types.now ty) count zero) ≡ plain.Replies r (shown self.new)) }
+    {
+        allocate(alloc, &mut self.heap, types, ty, count, zero)
+    }
+
+    /// Ends the heap object at a pointer.
+    pub fn release(&mut self, p: Value) -> Reply
+        ensures { plain.leaves (shown self.old) (mem.release (memory self.old.heap) p) ≡ plain.Replies result (shown self.new) }
+    {
+        done(self.heap.free(p))
+    }
+
+    /// A thread locks a mutex, or waits for it.
+    pub fn lock(&mut self, thread: u8, p: Value) -> Outcome
+        ensures outcome { (if mem.waits (memory self.old.heap) thread p then plain.Waits else plain.leaves (shown self.old) (mem.lock (memory self.old.heap) thread p)) ≡ outcome_of result (shown self.new) }
+        ensures kept { result ≡ Outcome.Waits → shown self.new ≡ shown self.old }
+        ensures here { result ≢ Outcome.Elsewhere }
+    {
+        if waits(&self.heap, thread, p) {
+            Outcome::Waits
+        } else {
+            Outcome::Replies(done(lock(&mut self.heap, thread, p)))
+        }
+    }
+
+    /// A thread unlocks a mutex.
+    pub fn unlock(&mut self, thread: u8, p: Value) -> Reply
+        ensures { plain.leaves (shown self.old) (mem.unlock (memory self.old.heap) thread p) ≡ plain.Replies result (shown self.new) }
+    {
+        done(unlock(&mut self.heap, thread, p))
+    }
+
+    /// The mutex at a pointer is made free.
+    pub fn init_mutex(&mut self, p: Value) -> Reply
+        ensures { plain.leaves (shown self.old) (mem.init_mutex (memory self.old.heap) p) ≡ plain.Replies result (shown self.new) }
+    {
+        done(init(&mut self.heap, p))
+    }
+
+    /// Takes the next byte of the input; -1 at its end.
+    pub fn next_byte(&mut self) -> Reply
+        ensures { plain.next_byte (shown self.old) self.old.input ≡ plain.Replies result (shown self.new) }
+    {
+        match self.input.get(self.read) {
+            None => Reply::Got(Value::Num(-1)),
+            Some(byte) => {
+                let byte = *byte;
+                self.read += 1;
+                Reply::Got(Value::Num(i64::from(byte)))
+            }
+        }
+    }
+
+    /// Writes the pieces.
+    pub fn print(&mut self, pieces: &[Piece]) -> Result<Reply, AllocError>
+        ensures { IfOk result (λ r. plain.writes (shown self.old) (plain.pieces_text (memory self.old.heap) pieces.now) ≡ plain.Replies r (shown self.new)) }
+    {
+        print(&self.heap, pieces, &mut self.output)
     }
 
     /// The output.
@@ -75,5 +170,25 @@ impl Outside {
     {
         let Outside { output, .. } = self;
         output
+    }
+}
+
+/// The reply to an act that gives no value.
+fn done(answer: Result<(), Trap>) -> Reply
+    ensures { result ≡ done answer }
+{
+    match answer {
+        Ok(()) => Reply::Done,
+        Err(trap) => Reply::Trapped(trap),
+    }
+}
+
+/// The reply to an act that gives a value.
+fn given(answer: Result<Value, Trap>) -> Reply
+    ensures { result ≡ given answer }
+{
+    match answer {
+        Ok(value) => Reply::Got(value),
+        Err(trap) => Reply::Trapped(trap),
     }
 }

@@ -4,10 +4,11 @@ ghost use Rattle.std.specs.Prelude.{◌≡◌, is_some};
 ghost use Rattle.kt_world.specs.Job.{version_at};
 ghost use Rattle.kt_world.specs.Plain.{job_of};
 
-use crate::globals::place;
+use crate::effects::{Outcome, effect};
 use crate::outside::Outside;
 use kt_heap::Heap;
-use kt_mem::Value;
+use kt_mem::{Act, Value};
+use kt_types::TypeTable;
 use kt_world::job::Job;
 use kt_world::mark::{Closed, End, Mark, Phase};
 use std::alloc::{AllocError, Global};
@@ -28,7 +29,7 @@ pub struct Shared {
 }
 
 impl Model for Shared {
-    ghost use Rattle.std.specs.Prelude.{◌+◌, ◌<◌, vec_len};
+    ghost use Rattle.std.specs.Prelude.{◌+◌, ◌<◌, ◌≤◌, vec_len};
     ghost use Rattle.kt_machine.specs.Shared as spec;
 
     ghost Value = { spec.Shared };
@@ -45,13 +46,14 @@ impl Model for Shared {
       ended = s.ended;
     } };
 
-    ghost invariant = { λ s. s.requests + vec_len s.after < 256 };
+    ghost invariant = { λ s. (s.requests + vec_len s.after < 256) × (vec_len s.kept ≤ 4294967296) };
 }
 
 impl Shared {
-    ghost use Rattle.std.specs.Prelude.{◌≡◌, ◌+◌, ◌<◌, ◌^◌, [], ◌∷◌, ◌++◌, None, OnOk, Some, drop, length, vec_len};
+    ghost use Rattle.std.specs.Prelude.{◌≡◌, ◌+◌, ◌<◌, ◌≤◌, ◌^◌, [], ◌∷◌, ◌++◌, IfOk, None, OnOk, Some, drop, length, vec_len};
     ghost use Rattle.kt_heap.specs.Heap.{memory};
-    ghost use Rattle.kt_machine.specs.Outside.{HasCharLiterals};
+    ghost use Rattle.kt_meaning.specs.Effects as plain;
+    ghost use Rattle.kt_machine.specs.Outside.{outcome_of, shown, HasCharLiterals, IsComplete};
     ghost use Rattle.kt_machine.specs.Shared.{shared_of};
     ghost use Rattle.kt_world.specs.Plain.{job_of};
     ghost use Rattle.kt_world.specs.Turn.{asked, ended_as, request, spent, with_mark};
@@ -99,11 +101,21 @@ impl Shared {
         &self.outside
     }
 
-    /// Memory, input and output, to be changed.
-    pub fn outside_mut(&mut self) -> &mut Outside
-        ensures { (self.old.outside ≡ result.old) × (self.new ≡ record self.old { outside = result.new }) }
+    /// What an act of this thread does to memory, input and output, where the table has the types of its version.
+    pub fn effect(
+        &mut self,
+        alloc: Global,
+        types: &TypeTable,
+        thread: u8,
+        act: &Act,
+    ) -> Result<Outcome, AllocError>
+        requires { IsComplete types.now act.now }
+        ensures outcome { IfOk result (λ o. plain.effect types.now thread act.now (shown self.old.outside) ≡ outcome_of o (shown self.new.outside)) }
+        ensures kept { IfOk result (λ o. (o ≡ Outcome.Waits → shown self.new.outside ≡ shown self.old.outside)
+            × (o ≡ Outcome.Elsewhere → shown self.new.outside ≡ shown self.old.outside)) }
+        ensures rest { self.new ≡ record self.old { outside = self.new.outside } }
     {
-        &mut self.outside
+        effect(alloc, &mut self.outside, types, thread, act)
     }
 
     /// Places all kept values, which are then kept no more.
@@ -221,6 +233,7 @@ impl Shared {
     ) -> Result<(), AllocError>
         requires version { self.old.version < 16 }
         requires literals { HasCharLiterals (memory heap) }
+        requires few { vec_len kept ≤ 4294967296 }
         ensures { OnOk result (shared_of self.new ≡ marked (Mark.Close self.old.turns self.old.requests (Closed.Ok 0)) (record (shared_of self.old) {
           version = self.old.version + 1;
           memory = memory heap;

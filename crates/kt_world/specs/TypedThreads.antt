@@ -162,5 +162,5 @@ module _ (old new : Program) where
   point-mode None = tt
   point-mode (Some q) = name-mode (slice_get old.points.names q)
 
-  pub next-mode : (s : Step tree.Thread) → IsMode new (updating_from (next_point old new s))
+  pub next-mode : {X : Type 0} (s : Step X) → IsMode new (updating_from (next_point old new s))
   next-mode s = point-mode (point_of s)

@@ -1,0 +1,149 @@
+-- The memory with which a version begins, object by object.
+use Rattle.std.proofs.Common.{◌≡◌, ℕ, zero, suc, ◌+◌, ◌<◌, ◌==◌, ◌&&◌, Bool, true, false, cond, List, [], ◌∷◌, ◌++◌, length, map, take, Option, Some, None, slice_get, get_or, refl, sym, ap, subst, ◌∙◌, arith, add-one}
+use Rattle.std.specs.List.{AllByRecursion}
+use Rattle.std.specs.Option.{option_map}
+use Rattle.std.proofs.lemmas.List.{take_all}
+use Rattle.std.proofs.lemmas.Bool.Decides.{nat_tests}
+use Rattle.std.proofs.lemmas.Option.{none-some, same_Some, slice_get_read}
+use mathlib.Core.Path.{fun_ext}
+use Rattle.kt_types.specs.declared.kinds.Ty.TheVariants as ty
+use Rattle.kt_mem.specs.declared.memory.Name.{Name}
+use Rattle.kt_mem.specs.declared.memory.Name.TheVariants.{Glob, Lit, Heap}
+use Rattle.kt_mem.specs.Memory.{Cell, Memory, Object, no_objects, put}
+use Rattle.kt_heap.specs.Heap.{with_object}
+use Rattle.kt_tree.specs.declared.global.GlobalDecl.{GlobalDecl}
+use Rattle.kt_tree.specs.Version.{Program, IsProgram, IsGlobal}
+use Rattle.kt_world.specs.Update.{char_cell, first_memory, first_object, global_object, literal_object}
+use Rattle.kt_machine.specs.Outside.{HasCharLiterals}
+
+-- ---- one element more of a list
+
+-- the last of one element more
+last : {X : Type 0} (xs : List X) (i : ℕ) (x : X) → slice_get xs i ≡ Some x → slice_get (take (suc i) xs) i ≡ Some x
+last [] i x at = absurd (none-some x at)
+last (y ∷ xs) zero x at = at
+last (y ∷ xs) (suc i) x at = last xs i x at
+
+-- the others
+other : {X : Type 0} (xs : List X) (i j : ℕ) → (j ≡ i → ⊥) → slice_get (take i xs) j ≡ slice_get (take (suc i) xs) j
+other [] zero j h = refl
+other [] (suc i) j h = refl
+other (y ∷ xs) zero zero h = absurd (h refl)
+other (y ∷ xs) zero (suc j) h = refl
+other (y ∷ xs) (suc i) zero h = refl
+other (y ∷ xs) (suc i) (suc j) h = other xs i j (λ e. h (ap suc e))
+
+-- what is made of one element more
+one-more : {X Y : Type 0} (f : X → Y) (xs : List X) (i j : ℕ) (x : X) → slice_get xs i ≡ Some x →
+    cond (j == i) (Some (f x)) (option_map f (slice_get (take i xs) j)) ≡ option_map f (slice_get (take (i + 1) xs) j)
+one-more {X = X} f xs i j x at =
+    let e : suc i ≡ i + 1 = omega arith in
+    by_test (j == i) refl ∙ ap (λ n. option_map f (slice_get (take n xs) j)) e
+  where
+    by_test : (b : Bool) → (j == i) ≡ b → cond b (Some (f x)) (option_map f (slice_get (take i xs) j)) ≡ option_map f (slice_get (take (suc i) xs) j)
+    by_test true e =
+        let same : j ≡ i = grind (arith, nat_tests, e) in
+        sym (ap (option_map f) (subst (λ (k : ℕ). slice_get (take (suc i) xs) k ≡ Some x) (sym same) (last xs i x at)))
+    by_test false e = ap (option_map f) (other xs i j (λ same. grind (arith, nat_tests, e)))
+
+-- ---- objects
+
+module _ (v : ℕ) (p : Program) (next : ℕ) where
+  -- the memory with the first globals alone, and with all globals and the first literals
+  abbrev pub globals_first : ℕ → Memory
+  globals_first i = first_memory v (record p { globals = take i p.globals; literals = [] }) next
+
+  abbrev pub literals_first : ℕ → Memory
+  literals_first i = first_memory v (record p { literals = take i p.literals }) next
+
+  -- one global more
+  pub globals-more : (i : ℕ) (g : GlobalDecl) → slice_get p.globals i ≡ Some g →
+      with_object (globals_first i) (Glob i) (global_object v p.types g) ≡ globals_first (i + 1)
+  unfolding put
+  globals-more i g at = λ k. record { at = same k; next = next; live = 0 }
+    where
+      objects : (n : Name) → put (globals_first i).at (Glob i) (Some (global_object v p.types g)) n ≡ (globals_first (i + 1)).at n
+      objects (Glob j) = one-more (global_object v p.types) p.globals i j g at
+      objects (Lit w j) = refl
+      objects (Heap a) = refl
+      same : put (globals_first i).at (Glob i) (Some (global_object v p.types g)) ≡ (globals_first (i + 1)).at
+      same = fun_ext objects
+
+  -- one literal more
+  pub literals-more : (i : ℕ) (bytes : List ℕ) → slice_get p.literals i ≡ Some bytes →
+      with_object (literals_first i) (Lit v i) (literal_object bytes) ≡ literals_first (i + 1)
+  unfolding put
+  literals-more i bytes at = λ k. record { at = same k; next = next; live = 0 }
+    where
+      of_version : (b : Bool) (j : ℕ) →
+          cond (b && (j == i)) (Some (literal_object bytes)) (cond b (option_map literal_object (slice_get (take i p.literals) j)) None)
+          ≡ cond b (option_map literal_object (slice_get (take (i + 1) p.literals) j)) None
+      of_version true j = one-more literal_object p.literals i j bytes at
+      of_version false j = refl
+      objects : (n : Name) → put (literals_first i).at (Lit v i) (Some (literal_object bytes)) n ≡ (literals_first (i + 1)).at n
+      objects (Glob j) = refl
+      objects (Lit w j) = of_version (w == v) j
+      objects (Heap a) = refl
+      same : put (literals_first i).at (Lit v i) (Some (literal_object bytes)) ≡ (literals_first (i + 1)).at
+      same = fun_ext objects
+
+  -- all of them
+  pub globals-all : (i : ℕ) → i ≡ length p.globals → globals_first i ≡ first_memory v (record p { literals = [] }) next
+  globals-all i e =
+      let all : take i p.globals ≡ p.globals = take_all i p.globals (omega arith) in
+      ap (λ (gs : List GlobalDecl). first_memory v (record p { globals = gs; literals = [] }) next) all
+
+  pub literals-all : (i : ℕ) → i ≡ length p.literals → literals_first i ≡ first_memory v p next
+  literals-all i e =
+      let all : take i p.literals ≡ p.literals = take_all i p.literals (omega arith) in
+      ap (λ (ls : List (List ℕ)). first_memory v (record p { literals = ls }) next) all
+
+-- no object
+none_if : (b : Bool) → let none : Option Object = None in none ≡ cond b none none
+none_if true = refl
+none_if false = refl
+
+no-object-first : (v : ℕ) (p : Program) (n : Name) → no_objects n ≡ first_object v (record p { globals = []; literals = [] }) n
+no-object-first v p (Glob j) = refl
+no-object-first v p (Lit w j) = none_if (w == v)
+no-object-first v p (Heap a) = refl
+
+pub nothing-first : (v : ℕ) (p : Program) (next : ℕ) → record { at = no_objects; next = next; live = 0 } ≡ first_memory v (record p { globals = []; literals = [] }) next
+nothing-first v p next =
+    let same : no_objects ≡ first_object v (record p { globals = []; literals = [] }) = fun_ext (no-object-first v p) in
+    λ k. record { at = same k; next = next; live = 0 }
+
+-- ---- literals have `char` cells alone
+
+chars : (bytes : List ℕ) → AllByRecursion (λ c. c.ty ≡ ty.Char) (map char_cell bytes)
+chars [] = tt
+chars (b ∷ bytes) = (refl, chars bytes)
+
+module _ (o : Object) where
+  literal-chars : (l : Option (List ℕ)) → option_map literal_object l ≡ Some o → AllByRecursion (λ c. c.ty ≡ ty.Char) o.cells
+  literal-chars None e = absurd (none-some o e)
+  literal-chars (Some bytes) e =
+      subst (λ (q : Object). AllByRecursion (λ c. c.ty ≡ ty.Char) q.cells) (same_Some (literal_object bytes) o e) (chars (bytes ++ 0 ∷ []))
+
+  version-chars : (b : Bool) (l : Option (List ℕ)) → cond b (option_map literal_object l) None ≡ Some o → AllByRecursion (λ c. c.ty ≡ ty.Char) o.cells
+  version-chars true l e = literal-chars l e
+  version-chars false l e = absurd (none-some o e)
+
+-- in the memory with which a version begins
+pub first_memory-chars : (v : ℕ) (p : Program) (next : ℕ) → HasCharLiterals (first_memory v p next)
+first_memory-chars v p next w i o at = version-chars o (w == v) (slice_get p.literals i) at
+
+-- ---- what a version has
+
+-- what a loop over a list has at a place
+pub item-at : {X : Type 0} (xs ys : List X) (i : ℕ) (x : X) → xs ≡ ys → i < length xs → x ≡ get_or xs i x → slice_get ys i ≡ Some x
+item-at xs ys i x same within is =
+    subst (λ zs. slice_get zs i ≡ Some x) same (slice_get_read xs (length xs) i x refl within is)
+
+get-all : (P : GlobalDecl → Type 0) (gs : List GlobalDecl) (i : ℕ) (g : GlobalDecl) → AllByRecursion P gs → slice_get gs i ≡ Some g → P g
+get-all P [] i g all at = absurd (none-some g at)
+get-all P (x ∷ gs) zero g all at = subst P (same_Some x g at) all.0
+get-all P (x ∷ gs) (suc i) g all at = get-all P gs i g all.1 at
+
+pub global-is : (p : Program) → IsProgram p → (i : ℕ) (g : GlobalDecl) → slice_get p.globals i ≡ Some g → IsGlobal p g
+global-is p h i g at = get-all (IsGlobal p) p.globals i g h.globals at

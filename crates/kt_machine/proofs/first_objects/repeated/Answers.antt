@@ -1,0 +1,17 @@
+use Rattle.std.proofs.Common.{◌≡◌, ℕ, zero, suc, ◌+◌, ◌++◌, List, ◌∙◌, ap, add-one, append_assoc, arith}
+use Rattle.std.proofs.lemmas.Grind.{common_steps}
+use Rattle.kt_mem.specs.Memory.{Cell, repeated}
+use Rattle.kt_machine.proofs.first_objects.repeated.Goals as goal
+
+repeated_more : (n : ℕ) (cs : List Cell) → repeated n cs ++ cs ≡ repeated (n + 1) cs
+repeated_more n cs = rw add-one (more n cs)
+  where
+    more : (n : ℕ) (cs : List Cell) → repeated n cs ++ cs ≡ repeated (suc n) cs
+    more zero cs = grind (arith, common_steps)
+    more (suc n) cs =
+        append_assoc cs (repeated n cs) cs ∙ ap (λ x. cs ++ x) (more n cs)
+
+pub loop-preserved : goal.loop-preserved
+loop-preserved c =
+    let more = repeated_more c.loop.counter c.args.element.now in
+    c.in_ok-extend_from_slice.ensures.items ∙ rw c.loop.invariant more

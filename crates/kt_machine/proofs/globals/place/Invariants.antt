@@ -1,0 +1,10 @@
+use Rattle.std.proofs.Common.{◌≡◌, take}
+use Rattle.kt_heap.specs.Heap.{memory, given}
+use Rattle.kt_world.specs.Update.{placed}
+use Rattle.kt_machine.proofs.globals.place.Given as goal
+
+abbrev pub invariant-loop-i : goal.invariant-loop-i
+invariant-loop-i l = record {
+  memory : memory l.heap ≡ placed (take l.i l.kept) (memory l.fn.heap);
+  given : given l.heap ≡ given l.fn.heap;
+}

@@ -1,0 +1,37 @@
+use Rattle.std.proofs.Common.{ap, slice_get}
+use Rattle.kt_world.specs.Turn.{has_ended}
+use Rattle.kt_machine.specs.Engine.{standing_of}
+use Rattle.kt_machine.proofs.Acting.{on-ok}
+use Rattle.kt_machine.proofs.Closings.{decided-restart, decided-refuse, decided-ended}
+use Rattle.kt_machine.proofs.Heads.{stands-at}
+use Rattle.kt_machine.proofs.machine.Machine.decide.Goals as goal
+
+pub returns-in-Some-clause-world : goal.returns-in-Some-clause-world
+returns-in-Some-clause-world c =
+    let m = c.args.self.now in
+    let stands = c.requires.settled.stands (ap (λ s. has_ended (standing_of s)) c.in-Parked.is) in
+    let k = stands-at (slice_get c.args.codes.now m.shared.version) m.private m.head stands.head in
+    on-ok c.restart.result
+    (decided-restart c.args.codes.now c.args.old.now c.args.new.now m c.restart.new.self c.in-Parked.is k c.next_point.result c.in-Some.point
+    c.next_point.ensures.point c.in-Some.is)
+    c.restart.ensures.world
+
+pub returns-in-None-clause-world : goal.returns-in-None-clause-world
+returns-in-None-clause-world c =
+    let m = c.args.self.now in
+    let stands = c.requires.settled.stands (ap (λ s. has_ended (standing_of s)) c.in-Parked.is) in
+    let k = stands-at (slice_get c.args.codes.now m.shared.version) m.private m.head stands.head in
+    on-ok c.refuse.result
+    (decided-refuse c.args.codes.now c.args.old.now c.args.new.now m c.refuse.new.self c.in-Parked.is k c.next_point.result
+    c.next_point.ensures.point c.in-None.is)
+    c.refuse.ensures.world
+
+pub returns-in-Ended-clause-world : goal.returns-in-Ended-clause-world
+returns-in-Ended-clause-world c =
+    on-ok c.update.result
+    (λ shared. decided-ended c.args.codes.now c.args.old.now c.args.new.now c.args.self.now c.update.new.self c.in-Ended.is
+    (shared c.args.codes.now) c.update.ensures.thread)
+    c.update.ensures.shared
+
+pub returns-in-Ended-clause-version : goal.returns-in-Ended-clause-version
+returns-in-Ended-clause-version c = ?

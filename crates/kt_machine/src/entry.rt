@@ -1,0 +1,82 @@
+//! The state at which `main` begins.
+ghost use Rattle.std.specs.Prelude.{◌≡◌, [], Some, IfOk, replicate};
+ghost use Rattle.std.specs.Option.{option_map};
+ghost use Rattle.kt_mem.specs.declared.memory.Value.TheVariants as value;
+ghost use Rattle.kt_tree.specs.Tree.{function_of};
+ghost use Rattle.kt_meaning.specs.ThreadTypes.{IsMode};
+ghost use Rattle.kt_code.specs.Settling.{Fits};
+ghost use Rattle.kt_pair.specs.VersionActs.{entry_state};
+ghost use Rattle.kt_world.specs.Turn.{main_of, restart_in};
+ghost use Rattle.kt_machine.specs.Engine.{code_entry, no_frames};
+
+use kt_code::{Frame, Frames, Operands, Private};
+use kt_mem::{KeptLocals, Mode, Value, Values};
+use kt_pair::{Compiled, compiled_law};
+use kt_tree::{Fun, Version, version_law};
+use std::alloc::{AllocError, Global};
+
+/// The state at which `main` of version `v` begins in this mode.
+pub fn enter_main(
+    alloc: Global,
+    v: u8,
+    compiled: &Compiled,
+    mode: Mode,
+) -> Result<Private, AllocError>
+    requires mode { IsMode compiled.now.program mode }
+    ensures entry { IfOk result (λ p. p ≡ code_entry v mode (Some compiled.now)) }
+    ensures fits { IfOk result (λ p. Fits compiled.now.code p) }
+{
+    version_law(compiled.version());
+    compiled_law(compiled);
+    let Some((number, function)) = main_of(compiled.version()) else {
+        return Ok(no_frames(alloc, v, mode));
+    };
+    match compiled.code().entries().get(number as usize) {
+        Some(at) => entry_state(alloc, v, *at, number, function, mode),
+        None => Ok(no_frames(alloc, v, mode)),
+    }
+}
+
+/// The function `main` of a version, and its number.
+fn main_of(version: &Version) -> Option<(u32, &Fun)>
+    ensures { option_map (λ found. (found.0, function_of found.1.now)) result ≡ main_of version.now }
+{
+    let number = version.function(b"main")?;
+    let function = version.functions().get(number as usize)?;
+    Some((number, function))
+}
+
+/// The state at the entry of a function without parameters, whose code begins at this place.
+fn entry_state(
+    alloc: Global,
+    v: u8,
+    at: u32,
+    number: u32,
+    function: &Fun,
+    mode: Mode,
+) -> Result<Private, AllocError>
+    ensures { IfOk result (λ p. p ≡ entry_state v at number (function_of function.now) [] (restart_in mode)) }
+{
+    let mut locals = Vec::new(alloc);
+    locals.resize(function.locals.as_slice().len(), Value::Undef)?;
+    let mut state = no_frames(alloc, v, mode);
+    state.frames.push(Frame {
+        function: number,
+        at,
+        locals: Values::from_vec(locals),
+    })?;
+    Ok(state)
+}
+
+/// A state without a frame.
+fn no_frames(alloc: Global, v: u8, mode: Mode) -> Private
+    ensures { result ≡ no_frames v mode }
+{
+    Private {
+        version: v,
+        frames: Frames::new(alloc),
+        operands: Operands::new(alloc),
+        mode,
+        locals: KeptLocals::from_vec(Vec::new(alloc)),
+    }
+}
