@@ -1,5 +1,5 @@
 -- The memory with which a version begins, object by object.
-use Rattle.std.proofs.Common.{◌≡◌, ℕ, zero, suc, ◌+◌, ◌<◌, ◌==◌, ◌&&◌, Bool, true, false, cond, List, [], ◌∷◌, ◌++◌, length, map, take, Option, Some, None, slice_get, get_or, refl, sym, ap, subst, ◌∙◌, arith, add-one}
+use Rattle.std.proofs.Common.{◌≡◌, ℕ, zero, suc, ◌+◌, ◌<◌, ◌==◌, ◌&&◌, Bool, true, false, cond, List, [], ◌∷◌, ◌++◌, length, map, take, Option, Some, None, slice_get, get_or, refl, sym, ap, subst, ◌∙◌, arith}
 use Rattle.std.specs.List.{AllByRecursion}
 use Rattle.std.specs.Option.{option_map}
 use Rattle.std.proofs.lemmas.List.{take_all}
@@ -9,7 +9,7 @@ use mathlib.Core.Path.{fun_ext}
 use Rattle.kt_types.specs.declared.kinds.Ty.TheVariants as ty
 use Rattle.kt_mem.specs.declared.memory.Name.{Name}
 use Rattle.kt_mem.specs.declared.memory.Name.TheVariants.{Glob, Lit, Heap}
-use Rattle.kt_mem.specs.Memory.{Cell, Memory, Object, no_objects, put}
+use Rattle.kt_mem.specs.Memory.{Memory, Object, no_objects, put}
 use Rattle.kt_heap.specs.Heap.{with_object}
 use Rattle.kt_tree.specs.declared.global.GlobalDecl.{GlobalDecl}
 use Rattle.kt_tree.specs.Version.{Program, IsProgram, IsGlobal}
@@ -66,6 +66,7 @@ module _ (v : ℕ) (p : Program) (next : ℕ) where
       objects (Glob j) = one-more (global_object v p.types) p.globals i j g at
       objects (Lit w j) = refl
       objects (Heap a) = refl
+
       same : put (globals_first i).at (Glob i) (Some (global_object v p.types g)) ≡ (globals_first (i + 1)).at
       same = fun_ext objects
 
@@ -80,10 +81,12 @@ module _ (v : ℕ) (p : Program) (next : ℕ) where
           ≡ cond b (option_map literal_object (slice_get (take (i + 1) p.literals) j)) None
       of_version true j = one-more literal_object p.literals i j bytes at
       of_version false j = refl
+
       objects : (n : Name) → put (literals_first i).at (Lit v i) (Some (literal_object bytes)) n ≡ (literals_first (i + 1)).at n
       objects (Glob j) = refl
       objects (Lit w j) = of_version (w == v) j
       objects (Heap a) = refl
+
       same : put (literals_first i).at (Lit v i) (Some (literal_object bytes)) ≡ (literals_first (i + 1)).at
       same = fun_ext objects
 

@@ -1,10 +1,10 @@
 -- The entry of `main` in code fits the code.
-use Rattle.std.proofs.Common.{◌≡◌, ℕ, zero, suc, List, [], ◌∷◌, map, take, codes, slice_get, Option, Some, None, Result, Ok, Err, IfOk, refl, sym, ap, subst, ◌∙◌, inr}
+use Rattle.std.proofs.Common.{◌≡◌, ℕ, zero, suc, List, [], map, take, codes, slice_get, Option, Some, None, Result, Ok, Err, IfOk, refl, sym, ap, subst, ◌∙◌, inr}
 use Rattle.kt_types.specs.declared.kinds.FieldDecl.{FieldDecl}
 use Rattle.kt_mem.specs.declared.thread.Mode.{Mode}
 use Rattle.kt_tree.specs.Names.{place_of}
 use Rattle.kt_tree.specs.Tree.{Function}
-use Rattle.kt_tree.specs.Version.{Program, IsProgram, function_names, head_of}
+use Rattle.kt_tree.specs.Version.{Program, IsProgram, function_names}
 use Rattle.kt_meaning.specs.Laws.{numbered}
 use Rattle.kt_meaning.specs.ThreadTypes.{IsMode}
 use Rattle.kt_meaning.specs.Values.{AreAt}
@@ -12,7 +12,7 @@ use Rattle.kt_code.specs.Code.{Code}
 use Rattle.kt_code.specs.Settling.{settle, Fits}
 use Rattle.kt_code.specs.declared.private.Private.{Private}
 use Rattle.kt_pair.specs.Pair.{Pair}
-use Rattle.kt_pair.specs.VersionActs.{FitsEntries, entry_state}
+use Rattle.kt_pair.specs.VersionActs.{FitsEntries}
 use Rattle.kt_world.specs.Turn.{main_of, main_at, restart_in}
 use Rattle.kt_world.specs.TypedThreads.{main-place}
 use Rattle.kt_machine.specs.Engine.{code_entry, entry_at, entry_of, no_frames}

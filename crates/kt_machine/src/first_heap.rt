@@ -23,12 +23,7 @@ pub fn first_heap(alloc: Global, v: u8, version: &Version, next: u64) -> Result<
 }
 
 /// Puts the globals into a heap without an object.
-fn set_globals(
-    alloc: Global,
-    v: u8,
-    version: &Version,
-    heap: &mut Heap,
-) -> Result<(), AllocError>
+fn set_globals(alloc: Global, v: u8, version: &Version, heap: &mut Heap) -> Result<(), AllocError>
     requires { memory heap.old ≡ first_memory v (record version.now { globals = []; literals = [] }) (memory heap.old).next }
     ensures memory { OnOk result (memory heap.new ≡ first_memory v (record version.now { literals = [] }) (memory heap.old).next) }
     ensures given { given heap.new ≡ given heap.old }
@@ -42,12 +37,7 @@ fn set_globals(
 }
 
 /// Puts the string literals into a heap of globals.
-fn set_literals(
-    alloc: Global,
-    v: u8,
-    version: &Version,
-    heap: &mut Heap,
-) -> Result<(), AllocError>
+fn set_literals(alloc: Global, v: u8, version: &Version, heap: &mut Heap) -> Result<(), AllocError>
     requires { memory heap.old ≡ first_memory v (record version.now { literals = [] }) (memory heap.old).next }
     ensures memory { OnOk result (memory heap.new ≡ first_memory v version.now (memory heap.old).next) }
     ensures given { given heap.new ≡ given heap.old }

@@ -23,7 +23,7 @@ returns-in-Some-entry-clause-entry c =
     let f = function_of c.in-Some.function.now in
     let found : main_of p.program ≡ Some (c.in-Some.number, f) = sym (c.in-Some.ensures ∙ ap main_of c.version-2.ensures) in
     let at : slice_get p.code.entries c.in-Some.number ≡ Some c.in-Some-entry.at =
-      sym (c.in-Some-entry.ensures ∙ ap (λ (x : Code). slice_get x.entries c.in-Some.number) c.code.ensures) in
+    sym (c.in-Some-entry.ensures ∙ ap (λ (x : Code). slice_get x.entries c.in-Some.number) c.code.ensures) in
     ok-is (entry_state c.args.v c.in-Some-entry.at c.in-Some.number f [] (restart_in c.args.mode)) (code_entry c.args.v c.args.mode (Some p)) c.entry_state.result
     c.entry_state.ensures
     (sym (entry-is c.args.v c.args.mode p.code (main_of p.program) c.in-Some.number f (Some c.in-Some-entry.at) found at))
@@ -41,7 +41,7 @@ returns-in-None-clause-entry c =
     let f = function_of c.in-Some.function.now in
     let found : main_of p.program ≡ Some (c.in-Some.number, f) = sym (c.in-Some.ensures ∙ ap main_of c.version-2.ensures) in
     let at : slice_get p.code.entries c.in-Some.number ≡ None =
-      sym (c.in-None.ensures ∙ ap (λ (x : Code). slice_get x.entries c.in-Some.number) c.code.ensures) in
+    sym (c.in-None.ensures ∙ ap (λ (x : Code). slice_get x.entries c.in-Some.number) c.code.ensures) in
     c.no_frames-in-None.ensures ∙ sym (entry-is c.args.v c.args.mode p.code (main_of p.program) c.in-Some.number f None found at)
 
 pub returns-in-None-clause-fits : goal.returns-in-None-clause-fits

@@ -25,7 +25,7 @@ set_literals-requires c =
 pub returns-clause-memory : goal.returns-clause-memory
 returns-clause-memory c =
     let next : (memory c.set_globals.new.heap).next ≡ c.args.next =
-      ap (λ (m : Memory). m.next) c.in_ok-set_globals.ensures.memory ∙ ap (λ (m : Memory). m.next) c.new-heap.ensures.empty in
+    ap (λ (m : Memory). m.next) c.in_ok-set_globals.ensures.memory ∙ ap (λ (m : Memory). m.next) c.new-heap.ensures.empty in
     c.in_ok-set_literals.ensures.memory ∙ ap (first_memory c.args.v c.args.version.now) next
 
 pub returns-clause-literals : goal.returns-clause-literals

@@ -30,10 +30,10 @@ loop-i-preserved c =
     let at = item-at c.globals-global-items.result.now p.globals i g c.globals-global-items.ensures c.loop-i-test.true c.global-item.is in
     record {
       memory = c.in_ok-set_global.ensures.set
-        ∙ ap (λ (o : Object). with_object (memory c.loop-i.heap) (Glob i) o) c.in_ok-object.ensures
-        ∙ ap (λ (t : Table). with_object (memory c.loop-i.heap) (Glob i) (global_object c.args.v t g)) c.types.ensures
-        ∙ ap (λ (m : Memory). with_object m (Glob i) (global_object c.args.v p.types g)) c.loop-i.invariant.memory
-        ∙ globals-more c.args.v p (memory c.args.heap.now).next i g at;
+          ∙ ap (λ (o : Object). with_object (memory c.loop-i.heap) (Glob i) o) c.in_ok-object.ensures
+          ∙ ap (λ (t : Table). with_object (memory c.loop-i.heap) (Glob i) (global_object c.args.v t g)) c.types.ensures
+          ∙ ap (λ (m : Memory). with_object m (Glob i) (global_object c.args.v p.types g)) c.loop-i.invariant.memory
+          ∙ globals-more c.args.v p (memory c.args.heap.now).next i g at;
       given = c.set_global.ensures.pairs ∙ c.loop-i.invariant.given;
     }
 

@@ -18,10 +18,10 @@ loop-i-preserved c =
     let at = item-at c.literals-literal-items.result.now p.literals i bytes c.literals-literal-items.ensures c.loop-i-test.true c.literal-item.is in
     record {
       memory = c.in_ok-set_literal.ensures.set
-        ∙ ap (λ (o : Object). with_object (memory c.loop-i.heap) (Lit v i) o) c.in_ok-object.ensures
-        ∙ ap (λ (b : List ℕ). with_object (memory c.loop-i.heap) (Lit v i) (literal_object b)) c.as_bytes.ensures
-        ∙ ap (λ (m : Memory). with_object m (Lit v i) (literal_object bytes)) c.loop-i.invariant.memory
-        ∙ literals-more v p (memory c.args.heap.now).next i bytes at;
+          ∙ ap (λ (o : Object). with_object (memory c.loop-i.heap) (Lit v i) o) c.in_ok-object.ensures
+          ∙ ap (λ (b : List ℕ). with_object (memory c.loop-i.heap) (Lit v i) (literal_object b)) c.as_bytes.ensures
+          ∙ ap (λ (m : Memory). with_object m (Lit v i) (literal_object bytes)) c.loop-i.invariant.memory
+          ∙ literals-more v p (memory c.args.heap.now).next i bytes at;
       given = c.set_literal.ensures.pairs ∙ c.loop-i.invariant.given;
     }
 

@@ -23,4 +23,4 @@ loop-i-preserved c =
     c.in_ok-push.ensures.items
     ∙ ap (λ (x : Cell). c.loop-i.element.items ++ x ∷ []) c.initial_cell.ensures
     ∙ more (initial_cell c.args.v c.args.global.now.init) (cells c.args.types.now c.args.global.now.ty) c.loop-i.i c.cell_type.result c.loop-i.element.items
-      c.cell_type.ensures c.loop-i.invariant
+    c.cell_type.ensures c.loop-i.invariant

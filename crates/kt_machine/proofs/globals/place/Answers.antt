@@ -11,7 +11,7 @@ loop-i-preserved c =
     let i = c.loop-i.i in
     record {
       memory = c.place_one.ensures.placed
-        ∙ ap (λ (m : Memory). placed_one i (get_or kept i None) m) c.loop-i.invariant.memory
-        ∙ placed-next kept i (memory c.args.heap.now) c.loop-i-test.true;
+          ∙ ap (λ (m : Memory). placed_one i (get_or kept i None) m) c.loop-i.invariant.memory
+          ∙ placed-next kept i (memory c.args.heap.now) c.loop-i-test.true;
       given = c.place_one.ensures.given ∙ c.loop-i.invariant.given;
     }
