@@ -9,8 +9,8 @@ use Rattle.kt_syntax.specs.declared.tree.GlobalDeclarator.{GlobalDeclarator}
 use Rattle.kt_syntax.specs.declared.tree.Parameter.{Parameter}
 use Rattle.kt_syntax.specs.Tree.{Local, Declaration, Start, NoStart, Declares, Evaluates, Statement, Declared, Compound, Empty, Evaluated, Returned, Broken, Continued, Conditional, Alternative, Looped, Repeated, Counted, Statements, Nothing as NoStatements, More as Then, Definition, Routine, External, StructMentioned, StructDefined, GlobalsDeclared, FunctionDeclared}
 use Rattle.kt_tree.specs.Names.{is_identifier}
-use Rattle.kt_check.specs.Uses.{where_there}
-use Rattle.kt_check.specs.Tables.{DeclaredLocal, declared_type, parameter_local, locals_in, start_locals, statement_locals, block_locals, locals_of}
+use Rattle.kt_names.specs.Uses.{where_there}
+use Rattle.kt_names.specs.Tables.{DeclaredLocal, declared_type, parameter_local, locals_in, start_locals, statement_locals, block_locals, locals_of}
 use Rattle.kt_check.specs.Files.{OneField, fields_in}
 use Rattle.kt_check.specs.Named.{is_named_field, are_named_fields, is_named_global, is_named_parameter, is_named_local, are_named_locals, is_named_start, is_named_statement, are_named_statements, is_named_body, is_named_routine, is_named}
 use Rattle.kt_check.proofs.FieldCells.{all-both}

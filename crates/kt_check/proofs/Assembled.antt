@@ -9,19 +9,19 @@ use Rattle.kt_tree.specs.Version.{Program, IsProgram, AreDistinct, program}
 use Rattle.kt_syntax.specs.Tree.{Tree, External}
 use Rattle.kt_check.specs.declared.sofar.Defined.{Defined}
 use Rattle.kt_check.specs.declared.sofar.Sofar.{Sofar as SofarCode}
-use Rattle.kt_check.specs.declared.tables.Named.{Named}
-use Rattle.kt_check.specs.declared.tables.Texts.{Texts}
+use Rattle.kt_names.specs.declared.tables.Named.{Named}
+use Rattle.kt_names.specs.declared.tables.Texts.{Texts}
 use Rattle.kt_check.specs.declared.assembly.Assembly.{Assembly}
 use Rattle.kt_check.specs.Assembly.{program_seen}
 use Rattle.kt_check.specs.Built.{definition_seen, reversed_onto, built, CanBuild}
-use Rattle.kt_check.specs.Checked.{first, and_then}
+use Rattle.kt_names.specs.Checked.{first, and_then}
 use Rattle.kt_check.specs.Files.{Sofar, frame_of, program_of, typed_file, version_of}
 use Rattle.kt_check.specs.Named.{AreNamed, is_named}
 use Rattle.kt_check.specs.Stages.{sofar_of, typed_from}
-use Rattle.kt_check.specs.Tables.{struct_names, types_of, written_of, literals_in, point_names, update_names}
-use Rattle.kt_check.specs.Types.{scalars}
-use Rattle.kt_check.specs.Uses.{structs_of}
-use Rattle.kt_check.specs.Views.{latest_first}
+use Rattle.kt_names.specs.Tables.{struct_names, types_of, written_of, literals_in, point_names, update_names}
+use Rattle.kt_names.specs.Types.{scalars}
+use Rattle.kt_names.specs.Uses.{structs_of}
+use Rattle.kt_names.specs.Views.{latest_first}
 use Rattle.kt_check.proofs.Builds.{file-builds}
 use Rattle.kt_check.proofs.ExternalTypes.{types-begin}
 use Rattle.kt_check.proofs.NameTables.{names-distinct, none-distinct}

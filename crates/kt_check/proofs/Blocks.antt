@@ -8,15 +8,15 @@ use Rattle.kt_syntax.specs.Tree.{Start, Statement as Syntax, Evaluated as Expr, 
 use Rattle.kt_tree.specs.declared.expr.Expr.{Expr as ExprCode}
 use Rattle.kt_tree.specs.declared.stmt.Stmt.{Stmt}
 use Rattle.kt_tree.specs.Tree.{Expression, Statement, Statements, Compound, Conditional, Looped, Repeated, Done, Then, expression_of, statement_of, statements_of}
-use Rattle.kt_check.specs.declared.fault.CheckFault.{CheckFault}
-use Rattle.kt_check.specs.declared.fault.CheckFault.TheVariants.{BadType}
-use Rattle.kt_check.specs.declared.info.Scopes.{Scopes}
-use Rattle.kt_check.specs.Checked.{Checked, and_then, fault}
-use Rattle.kt_check.specs.Judges.{Fails, Judges}
-use Rattle.kt_check.specs.Statements.{Body, State, here, condition, effect_of, perhaps, start, entered, locals, statement, entries, before}
-use Rattle.kt_check.specs.Scopes.{state_of, Grown, Kept, tested_in, for_of, Heading, head_in, pair_of}
+use Rattle.kt_names.specs.declared.fault.CheckFault.{CheckFault}
+use Rattle.kt_names.specs.declared.fault.CheckFault.TheVariants.{BadType}
+use Rattle.kt_names.specs.declared.info.Scopes.{Scopes}
+use Rattle.kt_names.specs.Checked.{Checked, and_then, fault}
+use Rattle.kt_names.specs.Judges.{Fails, Judges}
+use Rattle.kt_names.specs.Statements.{Body, State, here, condition, effect_of, perhaps, start, entered, locals, statement, entries, before}
+use Rattle.kt_names.specs.Scopes.{state_of, Grown, Kept, tested_in, for_of, Heading, head_in, pair_of}
 use Rattle.kt_check.specs.Blocks.{single, single_in, entry_in, for_in}
-use Rattle.kt_check.proofs.Parts.{fails, judges-follows}
+use Rattle.kt_names.proofs.Parts.{fails, judges-follows}
 use Rattle.kt_check.proofs.Entries.{beside, paired, regroup, grown-more, grown-kept, kept-state, Stands, stands-more, more-fails, stands-end}
 
 -- a statement, with the number of locals behind it

@@ -17,14 +17,14 @@ use Rattle.kt_syntax.specs.declared.tree.Declarator.{Declarator}
 use Rattle.kt_syntax.specs.declared.tree.Fields.{Fields}
 use Rattle.kt_syntax.specs.declared.tree.GlobalDeclarator.{GlobalDeclarator}
 use Rattle.kt_syntax.specs.Tree.{External, StructMentioned, StructDefined, GlobalsDeclared, FunctionDeclared}
-use Rattle.kt_check.specs.Types.{root_of, starred_place, with_uses, number_of_struct, scalars}
-use Rattle.kt_check.specs.Uses.{Use, stars_of, fields_uses, global_uses, head_uses, body_uses, uses_of, declared_structs, body_structs, structs_of}
-use Rattle.kt_check.specs.Environment.{is_complete}
-use Rattle.kt_check.specs.Tables.{declared_type, struct_names, types_of}
-use Rattle.kt_check.specs.Statements.{base_for}
+use Rattle.kt_names.specs.Types.{root_of, starred_place, with_uses, number_of_struct, scalars}
+use Rattle.kt_names.specs.Uses.{Use, stars_of, fields_uses, global_uses, head_uses, body_uses, uses_of, declared_structs, body_structs, structs_of}
+use Rattle.kt_names.specs.Environment.{is_complete}
+use Rattle.kt_names.specs.Tables.{declared_type, struct_names, types_of}
+use Rattle.kt_names.specs.Statements.{base_for}
 use Rattle.kt_check.specs.Files.{Frame, Sofar, OneField, Within, outside, no_field, fields_in, is_array_count, field, fields_with, fields_of_base, fields_from, field_decl, with_global, globals_from, global, struct, function, globals, externals, frame_of, nothing_yet}
 use Rattle.kt_check.specs.Built.{larger, reach, reversed_onto, stage, CanInternAll, CanBuild}
-use Rattle.kt_check.proofs.Agrees.{HasStars}
+use Rattle.kt_terms.proofs.Agrees.{HasStars}
 use Rattle.kt_check.proofs.TypePlaces.{Extends, extends-self, some-of, uses-extend, uses-both}
 use Rattle.kt_check.proofs.ExternalTypes.{CountHas, FieldHas, FieldsHave, ExternalHas, array-has, external-gives, types-begin, types-have}
 use Rattle.kt_check.proofs.TypeOrder.{IsBelow, IsOrdered, AllFound, types-ordered}

@@ -4,10 +4,10 @@ use Rattle.kt_types.specs.Table.{Definition}
 use Rattle.kt_tree.specs.Version.{AreDistinct}
 use Rattle.kt_syntax.specs.Tree.{External}
 use Rattle.kt_check.specs.declared.sofar.Defined.{Defined}
-use Rattle.kt_check.specs.Types.{scalars}
-use Rattle.kt_check.specs.Uses.{structs_of}
-use Rattle.kt_check.specs.Tables.{struct_names, types_of}
-use Rattle.kt_check.specs.Views.{latest_first}
+use Rattle.kt_names.specs.Types.{scalars}
+use Rattle.kt_names.specs.Uses.{structs_of}
+use Rattle.kt_names.specs.Tables.{struct_names, types_of}
+use Rattle.kt_names.specs.Views.{latest_first}
 use Rattle.kt_check.specs.Files.{Sofar, frame_of, nothing_yet, externals}
 use Rattle.kt_check.specs.Built.{definition_seen, reversed_onto, CanBuild}
 use Rattle.kt_check.proofs.ExternalTypes.{types-begin}

@@ -9,11 +9,11 @@ use Rattle.std.proofs.lemmas.Bool.Decides.{nat_tests}
 use Rattle.std.proofs.lemmas.List.{take_all}
 use Rattle.kt_syntax.specs.declared.tree.LocalDeclarator.{LocalDeclarator}
 use Rattle.kt_syntax.specs.Tree.{local_of}
-use Rattle.kt_check.specs.declared.info.LocalInfo.{LocalInfo}
-use Rattle.kt_check.specs.Uses.{stars_of}
-use Rattle.kt_check.specs.Types.{number_of_struct}
-use Rattle.kt_check.specs.Statements.{contains}
-use Rattle.kt_check.specs.Scopes.{local_names}
+use Rattle.kt_names.specs.declared.info.LocalInfo.{LocalInfo}
+use Rattle.kt_names.specs.Uses.{stars_of}
+use Rattle.kt_names.specs.Types.{number_of_struct}
+use Rattle.kt_names.specs.Statements.{contains}
+use Rattle.kt_names.specs.Scopes.{local_names}
 
 -- ---- the number of a struct
 

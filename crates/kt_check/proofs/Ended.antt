@@ -9,17 +9,17 @@ use Rattle.kt_types.specs.declared.kinds.Ty.{Ty}
 use Rattle.kt_types.specs.Layout.{layout, struct_cells}
 use Rattle.kt_tree.specs.declared.global.GlobalDecl.{GlobalDecl}
 use Rattle.kt_syntax.specs.Tree.{External}
-use Rattle.kt_check.specs.declared.ctype.Root.{Root}
-use Rattle.kt_check.specs.declared.ctype.CType.{CType}
-use Rattle.kt_check.specs.declared.fault.CheckFault.TheVariants.{Twice}
-use Rattle.kt_check.specs.Checked.{holds}
-use Rattle.kt_check.specs.Environment.{Outer, Global, Function, is_complete, cells_of}
-use Rattle.kt_check.specs.Types.{starred_place, place_in, scalars}
-use Rattle.kt_check.specs.Tables.{OuterGlobal, globals_of, functions_of, defined_of, global_type, global_name, is_array, global_from, function_named, outer_named, view_of, Written, Literal, Updates, Asks, written_of, literals_in, update_names}
-use Rattle.kt_check.specs.Builtins.{point_number}
-use Rattle.kt_check.specs.Statements.{pointer_outside, declarator_place}
+use Rattle.kt_names.specs.declared.ctype.Root.{Root}
+use Rattle.kt_names.specs.declared.ctype.CType.{CType}
+use Rattle.kt_names.specs.declared.fault.CheckFault.TheVariants.{Twice}
+use Rattle.kt_names.specs.Checked.{holds}
+use Rattle.kt_names.specs.Environment.{Outer, Global, Function, is_complete, cells_of}
+use Rattle.kt_names.specs.Types.{starred_place, place_in, scalars}
+use Rattle.kt_names.specs.Tables.{OuterGlobal, globals_of, functions_of, defined_of, global_type, global_name, is_array, global_from, function_named, outer_named, view_of, Written, Literal, Updates, Asks, written_of, literals_in, update_names}
+use Rattle.kt_names.specs.Builtins.{point_number}
+use Rattle.kt_names.specs.Statements.{pointer_outside, declarator_place}
 use Rattle.kt_check.specs.Files.{Frame, Sofar, outside, outer_name, has_global, has_routine, is_array_count, count_of, initial_of, global, nothing_yet, program_of}
-use Rattle.kt_check.proofs.Agrees.{HasStars}
+use Rattle.kt_terms.proofs.Agrees.{HasStars}
 use Rattle.kt_check.proofs.TypePlaces.{Extends}
 use Rattle.kt_check.proofs.StructCells.{AreSame, of, cells-at, complete-cells, complete-later}
 use Rattle.kt_check.proofs.FieldCells.{then-parts, both-parts, holds-true, same-ok}

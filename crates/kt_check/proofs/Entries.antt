@@ -6,16 +6,16 @@ use Rattle.kt_grammar.specs.Tree.{Term}
 use Rattle.kt_syntax.specs.Tree.{Declaration, Statement as Syntax, Declared, Compound as Block, Empty, Evaluated as Expr, Returned as Return, Broken as Break, Continued as Continue, Conditional as If, Alternative as IfElse, Looped as While, Repeated as Do, Counted as For, Statements as Entries, Nothing as NoEntries, More as Entry}
 use Rattle.kt_tree.specs.declared.stmt.Stmt.{Stmt}
 use Rattle.kt_tree.specs.Tree.{Expression, Statement, Statements, Compound, Done, Then, statement_of, statements_of}
-use Rattle.kt_check.specs.declared.fault.CheckFault.{CheckFault}
-use Rattle.kt_check.specs.declared.head.Head.{Head}
-use Rattle.kt_check.specs.declared.info.Scopes.{Scopes}
-use Rattle.kt_check.specs.declared.info.Visible.{Visible}
-use Rattle.kt_check.specs.Checked.{Checked, and_then}
-use Rattle.kt_check.specs.Judges.{Fails, Judges}
-use Rattle.kt_check.specs.Statements.{Body, State, here, condition, effect_of, perhaps, entered, locals, statement, entries, before}
-use Rattle.kt_check.specs.Scopes.{state_of, Grown, Kept, declared_in, alone, Heading, heading_tested, head_of}
+use Rattle.kt_names.specs.declared.fault.CheckFault.{CheckFault}
+use Rattle.kt_names.specs.declared.head.Head.{Head}
+use Rattle.kt_names.specs.declared.info.Scopes.{Scopes}
+use Rattle.kt_names.specs.declared.info.Visible.{Visible}
+use Rattle.kt_names.specs.Checked.{Checked, and_then}
+use Rattle.kt_names.specs.Judges.{Fails, Judges}
+use Rattle.kt_names.specs.Statements.{Body, State, here, condition, effect_of, perhaps, entered, locals, statement, entries, before}
+use Rattle.kt_names.specs.Scopes.{state_of, Grown, Kept, declared_in, alone, Heading, heading_tested, head_of}
 use Rattle.kt_check.specs.Blocks.{single, entry_in}
-use Rattle.kt_check.proofs.Parts.{fails, follows}
+use Rattle.kt_names.proofs.Parts.{fails, follows}
 
 -- ---- scopes
 

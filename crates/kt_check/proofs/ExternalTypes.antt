@@ -10,13 +10,13 @@ use Rattle.kt_syntax.specs.declared.tree.Declarator.{Declarator}
 use Rattle.kt_syntax.specs.declared.tree.GlobalDeclarator.{GlobalDeclarator}
 use Rattle.kt_syntax.specs.declared.tree.Fields.{Fields}
 use Rattle.kt_syntax.specs.Tree.{External, StructMentioned, StructDefined, GlobalsDeclared, FunctionDeclared}
-use Rattle.kt_check.specs.declared.ctype.Root.{Root}
-use Rattle.kt_check.specs.declared.ctype.Root.TheVariants as root
-use Rattle.kt_check.specs.Uses.{Use, Starred, Arrayed, stars_of, counted_uses, field_uses, fields_uses, global_uses, head_uses, body_uses, external_uses, uses_of}
-use Rattle.kt_check.specs.Types.{root_of, starred_place, with_type, with_use, with_uses, scalars}
-use Rattle.kt_check.specs.Tables.{struct_names, types_of}
+use Rattle.kt_names.specs.declared.ctype.Root.{Root}
+use Rattle.kt_names.specs.declared.ctype.Root.TheVariants as root
+use Rattle.kt_names.specs.Uses.{Use, Starred, Arrayed, stars_of, counted_uses, field_uses, fields_uses, global_uses, head_uses, body_uses, external_uses, uses_of}
+use Rattle.kt_names.specs.Types.{root_of, starred_place, with_type, with_use, with_uses, scalars}
+use Rattle.kt_names.specs.Tables.{struct_names, types_of}
 use Rattle.kt_check.specs.Files.{is_array_count}
-use Rattle.kt_check.proofs.Agrees.{HasStars, HasUse}
+use Rattle.kt_terms.proofs.Agrees.{HasStars, HasUse}
 use Rattle.kt_check.proofs.TypePlaces.{IsIn, Extends, Gives, Stays, all-stays, gives-all, array-more, stars-more, stars-place, use-more, uses-have, uses-extend, with-type-extends, with-type-in, starred-has}
 
 -- an array of so many elements, where a count stands, has its place if it is not too large

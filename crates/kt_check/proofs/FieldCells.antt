@@ -15,17 +15,17 @@ use Rattle.kt_lex.specs.declared.number.Number.{Number}
 use Rattle.kt_grammar.specs.declared.tree.Base.{Base}
 use Rattle.kt_syntax.specs.declared.tree.Declarator.{Declarator}
 use Rattle.kt_syntax.specs.declared.tree.Fields.{Fields}
-use Rattle.kt_check.specs.declared.fault.CheckFault.{CheckFault}
-use Rattle.kt_check.specs.declared.ctype.Root.{Root}
-use Rattle.kt_check.specs.declared.ctype.Root.TheVariants as root
-use Rattle.kt_check.specs.Checked.{Checked, Faults, and_then, both, holds, with_faults}
-use Rattle.kt_check.specs.Environment.{Environment, is_complete}
-use Rattle.kt_check.specs.Types.{root_of, starred_place, place_of_type}
-use Rattle.kt_check.specs.Uses.{stars_of}
-use Rattle.kt_check.specs.Tables.{declared_type}
-use Rattle.kt_check.specs.Statements.{base_for}
+use Rattle.kt_names.specs.declared.fault.CheckFault.{CheckFault}
+use Rattle.kt_names.specs.declared.ctype.Root.{Root}
+use Rattle.kt_names.specs.declared.ctype.Root.TheVariants as root
+use Rattle.kt_names.specs.Checked.{Checked, Faults, and_then, both, holds, with_faults}
+use Rattle.kt_names.specs.Environment.{Environment, is_complete}
+use Rattle.kt_names.specs.Types.{root_of, starred_place, place_of_type}
+use Rattle.kt_names.specs.Uses.{stars_of}
+use Rattle.kt_names.specs.Tables.{declared_type}
+use Rattle.kt_names.specs.Statements.{base_for}
 use Rattle.kt_check.specs.Files.{Frame, Sofar, OneField, Within, outside, is_array_count, count_of, fields_in, field_cells, field, fields_with, fields_of_base, fields_from, field_info, field_decl, pointer_inside}
-use Rattle.kt_check.proofs.Agrees.{HasStars}
+use Rattle.kt_terms.proofs.Agrees.{HasStars}
 use Rattle.kt_check.proofs.ExternalTypes.{CountHas, FieldHas, FieldsHave, array-has}
 use Rattle.kt_check.proofs.StructCells.{AreLike, HasCells, AreSame, starred_cells, cells-at, array-cells-at, complete-cells, of, starless}
 

@@ -9,18 +9,18 @@ use Rattle.std.proofs.lemmas.List.{map-append, append-nil, take_more}
 use Rattle.kt_grammar.specs.declared.tree.Base.{Base}
 use Rattle.kt_syntax.specs.declared.tree.Declarator.{Declarator}
 use Rattle.kt_syntax.specs.declared.tree.Fields.{Fields}
-use Rattle.kt_check.specs.declared.fault.CheckFault.TheVariants.{Twice, TooBig}
-use Rattle.kt_check.specs.declared.info.FieldInfo.{FieldInfo}
+use Rattle.kt_names.specs.declared.fault.CheckFault.TheVariants.{Twice, TooBig}
+use Rattle.kt_names.specs.declared.info.FieldInfo.{FieldInfo}
 use Rattle.kt_check.specs.declared.shape.Within.{Within as WithinCode}
-use Rattle.kt_check.specs.Checked.{holds}
-use Rattle.kt_check.specs.Environment.{FieldOf}
-use Rattle.kt_check.specs.Statements.{contains}
-use Rattle.kt_check.specs.Views.{latest_first}
+use Rattle.kt_names.specs.Checked.{holds}
+use Rattle.kt_names.specs.Environment.{FieldOf}
+use Rattle.kt_names.specs.Statements.{contains}
+use Rattle.kt_names.specs.Views.{latest_first}
 use Rattle.kt_check.specs.Files.{Frame, Sofar, OneField, Within, outside, is_array_count, field_cells, fields_in, field_info, field_decl, pointer_inside}
 use Rattle.kt_check.specs.Shapes.{infos_of, Grows, size_parts, field_parts}
-use Rattle.kt_check.proofs.Heads.{any-append}
+use Rattle.kt_names.proofs.Inserted.{any-append}
 use Rattle.kt_check.proofs.Right.{both-right, holds-right, both-true, not-true}
-use Rattle.kt_check.proofs.Visibles.{latest-push}
+use Rattle.kt_names.proofs.Visibles.{latest-push}
 
 -- ---- names
 

@@ -19,17 +19,17 @@ use Rattle.kt_grammar.specs.declared.tree.Base.TheVariants as base
 use Rattle.kt_syntax.specs.declared.tree.Extent.{Extent}
 use Rattle.kt_syntax.specs.declared.tree.Extent.TheVariants as extent
 use Rattle.kt_syntax.specs.declared.tree.Pointer.{Pointer}
-use Rattle.kt_check.specs.declared.ctype.Root.{Root}
-use Rattle.kt_check.specs.declared.ctype.Root.TheVariants as root
-use Rattle.kt_check.specs.Checked.{Checked}
-use Rattle.kt_check.specs.Environment.{Outer, Global, Function}
-use Rattle.kt_check.specs.Types.{root_of, starred_place}
-use Rattle.kt_check.specs.Uses.{stars_of}
-use Rattle.kt_check.specs.Tables.{plain_view, global_view, outer_view, extent_of, view_of}
-use Rattle.kt_check.specs.Statements.{pointer_outside, extent_outside}
+use Rattle.kt_names.specs.declared.ctype.Root.{Root}
+use Rattle.kt_names.specs.declared.ctype.Root.TheVariants as root
+use Rattle.kt_names.specs.Checked.{Checked}
+use Rattle.kt_names.specs.Environment.{Outer, Global, Function}
+use Rattle.kt_names.specs.Types.{root_of, starred_place}
+use Rattle.kt_names.specs.Uses.{stars_of}
+use Rattle.kt_names.specs.Tables.{plain_view, global_view, outer_view, extent_of, view_of}
+use Rattle.kt_names.specs.Statements.{pointer_outside, extent_outside}
 use Rattle.kt_check.specs.Files.{Frame, Sofar, OneField, outside, is_array_count, fields_in, pointer_inside, is_integer_base, is_count_field, count_field, extent_inside, outer_view_of, named_view, field_view, field_decl, program_of}
 use Rattle.kt_check.proofs.AllNamed.{IsNamedDeclarator}
-use Rattle.kt_check.proofs.Agrees.{HasStars}
+use Rattle.kt_terms.proofs.Agrees.{HasStars}
 use Rattle.kt_check.proofs.TypePlaces.{found-at}
 use Rattle.kt_check.proofs.Stars.{HasStar, star-parts, star-from, inside-star}
 use Rattle.kt_check.proofs.ExternalTypes.{CountHas, array-has}

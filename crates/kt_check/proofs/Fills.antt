@@ -11,12 +11,12 @@ use Rattle.kt_types.proofs.Keeps.{slice_get-push}
 use Rattle.kt_grammar.specs.declared.tree.Base.{Base}
 use Rattle.kt_syntax.specs.declared.tree.Declarator.{Declarator}
 use Rattle.kt_syntax.specs.declared.tree.Fields.{Fields}
-use Rattle.kt_check.specs.declared.ctype.Root.{Root}
-use Rattle.kt_check.specs.declared.ctype.Root.TheVariants as root
-use Rattle.kt_check.specs.Uses.{Use, Starred, Arrayed, stars_of, field_uses, fields_uses}
-use Rattle.kt_check.specs.Types.{has_by, same_type, root_type, root_of, starred_place, with_type, with_starred, with_uses}
+use Rattle.kt_names.specs.declared.ctype.Root.{Root}
+use Rattle.kt_names.specs.declared.ctype.Root.TheVariants as root
+use Rattle.kt_names.specs.Uses.{Use, Starred, Arrayed, stars_of, field_uses, fields_uses}
+use Rattle.kt_names.specs.Types.{has_by, same_type, root_type, root_of, starred_place, with_type, with_starred, with_uses}
 use Rattle.kt_check.specs.Files.{Frame, OneField}
-use Rattle.kt_check.proofs.Agrees.{HasStars}
+use Rattle.kt_terms.proofs.Agrees.{HasStars}
 use Rattle.kt_check.proofs.TypePlaces.{Extends, extends-on, extends-self, stars-place, starred-has, uses-extend, uses-both, with-type-extends}
 use Rattle.kt_check.proofs.ExternalTypes.{with_counted, counted-gives, one_more}
 use Rattle.kt_check.proofs.PlainUses.{ArePlain}

@@ -16,19 +16,19 @@ use Rattle.kt_tree.specs.Version.{head_of}
 use Rattle.kt_grammar.specs.declared.tree.Base.{Base}
 use Rattle.kt_syntax.specs.declared.tree.Parameter.{Parameter}
 use Rattle.kt_syntax.specs.Tree.{Routine, External}
-use Rattle.kt_check.specs.declared.fault.CheckFault.TheVariants.{Twice, BadType}
-use Rattle.kt_check.specs.declared.ctype.Root.{Root}
-use Rattle.kt_check.specs.declared.ctype.Root.TheVariants as root
-use Rattle.kt_check.specs.declared.ctype.CType.{CType}
-use Rattle.kt_check.specs.Checked.{Checked, holds, fault, and_then}
-use Rattle.kt_check.specs.Environment.{Outer, Global, Function, Declared}
-use Rattle.kt_check.specs.Types.{same_root, same_ctype, is_scalar, ctype, place_in}
-use Rattle.kt_check.specs.Uses.{result_stars, result_uses, head_uses, body_uses}
-use Rattle.kt_check.specs.Tables.{OuterGlobal, globals_of, functions_of, defined_in, defined_of, first_by, result_type, parameter_types, function_named, global_from, global_name, global_type, is_array, outer_named, parameter_local, view_of, declared_type}
-use Rattle.kt_check.specs.Statements.{base_for}
-use Rattle.kt_check.specs.Functions.{stars_place, result_fault, same_types, same_result, same_function, is_defined, is_other_type, agrees, parameters, no_state, body_in, is_noted}
+use Rattle.kt_names.specs.declared.fault.CheckFault.TheVariants.{Twice, BadType}
+use Rattle.kt_names.specs.declared.ctype.Root.{Root}
+use Rattle.kt_names.specs.declared.ctype.Root.TheVariants as root
+use Rattle.kt_names.specs.declared.ctype.CType.{CType}
+use Rattle.kt_names.specs.Checked.{Checked, holds, fault, and_then}
+use Rattle.kt_names.specs.Environment.{Outer, Global, Function, Declared}
+use Rattle.kt_names.specs.Types.{same_root, same_ctype, is_scalar, ctype, place_in}
+use Rattle.kt_names.specs.Uses.{result_stars, result_uses, head_uses, body_uses}
+use Rattle.kt_names.specs.Tables.{OuterGlobal, globals_of, functions_of, defined_in, defined_of, first_by, result_type, parameter_types, function_named, global_from, global_name, global_type, is_array, outer_named, parameter_local, view_of, declared_type}
+use Rattle.kt_names.specs.Statements.{base_for}
+use Rattle.kt_names.specs.Functions.{stars_place, result_fault, same_types, same_result, same_function, is_defined, is_other_type, agrees, parameters, no_state, body_in, is_noted}
 use Rattle.kt_check.specs.Files.{Frame, Sofar, outside, outer_name, has_global, nothing_yet}
-use Rattle.kt_check.proofs.Agrees.{HasUse, Holds, ResultHolds}
+use Rattle.kt_terms.proofs.Agrees.{HasUse, Holds, ResultHolds}
 use Rattle.kt_check.proofs.TypePlaces.{found-at}
 use Rattle.kt_check.proofs.FieldCells.{not-ok, then-parts, both-parts, holds-true}
 use Rattle.kt_check.proofs.Steps.{Item, AStruct, AGlobal, ARoutine, Steps, ItemHas, items_of, routines_among, routines-all}

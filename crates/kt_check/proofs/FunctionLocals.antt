@@ -6,10 +6,10 @@ use Rattle.kt_syntax.specs.declared.tree.LocalDeclarator.{LocalDeclarator}
 use Rattle.kt_syntax.specs.declared.tree.Parameter.{Parameter}
 use Rattle.kt_syntax.specs.declared.tree.Stmt.{Stmt}
 use Rattle.kt_syntax.specs.Tree.{local_of, statement_of, statements_of}
-use Rattle.kt_check.specs.declared.ctype.CType.{CType}
-use Rattle.kt_check.specs.declared.info.LocalInfo.{LocalInfo}
-use Rattle.kt_check.specs.Tables.{DeclaredLocal, declared_type, locals_in, parameter_local, block_locals, statement_locals}
-use Rattle.kt_check.specs.Scopes.{declared_as}
+use Rattle.kt_names.specs.declared.ctype.CType.{CType}
+use Rattle.kt_names.specs.declared.info.LocalInfo.{LocalInfo}
+use Rattle.kt_names.specs.Tables.{DeclaredLocal, declared_type, locals_in, parameter_local, block_locals, statement_locals}
+use Rattle.kt_names.specs.Scopes.{declared_as}
 
 pub added-push : (xs ys : List LocalInfo) (l : LocalInfo) → ys ≡ xs ++ l ∷ [] → map declared_as ys ≡ map declared_as xs ++ declared_as l ∷ []
 added-push xs ys l e = ap (λ (ls : List LocalInfo). map declared_as ls) e ∙ map-append declared_as xs (l ∷ [])

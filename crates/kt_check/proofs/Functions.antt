@@ -8,20 +8,20 @@ use Rattle.kt_types.specs.declared.kinds.FieldDecl.{FieldDecl}
 use Rattle.kt_tree.specs.declared.stmt.Stmt.{Stmt}
 use Rattle.kt_tree.specs.Tree.{Function, Statement, Statements, Compound, statements_of, function_of}
 use Rattle.kt_tree.specs.declared.function.Fun.{Fun}
-use Rattle.kt_check.specs.declared.ctype.CType.{CType}
-use Rattle.kt_check.specs.declared.fault.CheckFault.{CheckFault}
-use Rattle.kt_check.specs.declared.fault.CheckFault.TheVariants.{NoMemory}
-use Rattle.kt_check.specs.declared.info.FunctionInfo.{FunctionInfo}
-use Rattle.kt_check.specs.declared.info.LocalInfo.{LocalInfo}
-use Rattle.kt_check.specs.Checked.{Checked, and_then, first}
-use Rattle.kt_check.specs.Judges.{Fails, Judges}
-use Rattle.kt_check.specs.Environment.{Environment}
-use Rattle.kt_check.specs.Uses.{stars_of}
-use Rattle.kt_check.specs.Tables.{DeclaredLocal, locals_of, result_type, view_of}
-use Rattle.kt_check.specs.Statements.{Body, State, base_for, declared, entries}
-use Rattle.kt_check.specs.Functions.{parameters, body_in, is_noted, typed_function, defined_function}
-use Rattle.kt_check.specs.Scopes.{body_by, declared_as, local_names, local_field, typed_by, parameter_parts, parameter_in}
-use Rattle.kt_check.proofs.Parts.{fails}
+use Rattle.kt_names.specs.declared.ctype.CType.{CType}
+use Rattle.kt_names.specs.declared.fault.CheckFault.{CheckFault}
+use Rattle.kt_names.specs.declared.fault.CheckFault.TheVariants.{NoMemory}
+use Rattle.kt_names.specs.declared.info.FunctionInfo.{FunctionInfo}
+use Rattle.kt_names.specs.declared.info.LocalInfo.{LocalInfo}
+use Rattle.kt_names.specs.Checked.{Checked, and_then, first}
+use Rattle.kt_names.specs.Judges.{Fails, Judges}
+use Rattle.kt_names.specs.Environment.{Environment}
+use Rattle.kt_names.specs.Uses.{stars_of}
+use Rattle.kt_names.specs.Tables.{DeclaredLocal, locals_of, result_type, view_of}
+use Rattle.kt_names.specs.Statements.{Body, State, base_for, declared, entries}
+use Rattle.kt_names.specs.Functions.{parameters, body_in, is_noted, typed_function, defined_function}
+use Rattle.kt_names.specs.Scopes.{body_by, declared_as, local_names, local_field, typed_by, parameter_parts, parameter_in}
+use Rattle.kt_names.proofs.Parts.{fails}
 use Rattle.kt_check.proofs.Entries.{regroup}
 
 -- ---- what is known of a function

@@ -16,18 +16,18 @@ use Rattle.kt_syntax.specs.declared.tree.Extent.{Extent}
 use Rattle.kt_syntax.specs.declared.tree.Extent.TheVariants as extent
 use Rattle.kt_syntax.specs.declared.tree.Pointer.{Pointer}
 use Rattle.kt_syntax.specs.Tree.{Routine}
-use Rattle.kt_check.specs.declared.ctype.CType.{CType}
-use Rattle.kt_check.specs.declared.fault.CheckFault.TheVariants.{BadType}
-use Rattle.kt_check.specs.Checked.{Checked, fault}
-use Rattle.kt_check.specs.Environment.{Environment, Global, FieldOf, Struct, struct_numbered}
-use Rattle.kt_check.specs.Types.{place_in, pointer_to}
-use Rattle.kt_check.specs.Uses.{head_uses, body_uses, where_there}
-use Rattle.kt_check.specs.Tables.{Written, Literal, Updates, Asks, DeclaredLocal, declared_type, functions_of, defined_of, locals_of, block_locals, parameter_local, external_written, block_written, view_of}
-use Rattle.kt_check.specs.Statements.{State, extent_outside, pointer_outside}
-use Rattle.kt_check.specs.Functions.{parameters, no_state, body_in, is_noted, typed_function}
+use Rattle.kt_names.specs.declared.ctype.CType.{CType}
+use Rattle.kt_names.specs.declared.fault.CheckFault.TheVariants.{BadType}
+use Rattle.kt_names.specs.Checked.{Checked, fault}
+use Rattle.kt_names.specs.Environment.{Environment, Global, FieldOf, Struct, struct_numbered}
+use Rattle.kt_names.specs.Types.{place_in, pointer_to}
+use Rattle.kt_names.specs.Uses.{head_uses, body_uses, where_there}
+use Rattle.kt_names.specs.Tables.{Written, Literal, Updates, Asks, DeclaredLocal, declared_type, functions_of, defined_of, locals_of, block_locals, parameter_local, external_written, block_written, view_of}
+use Rattle.kt_names.specs.Statements.{State, extent_outside, pointer_outside}
+use Rattle.kt_names.specs.Functions.{parameters, no_state, body_in, is_noted, typed_function}
 use Rattle.kt_check.specs.Files.{Frame, Sofar, outside, program_of}
 use Rattle.kt_check.proofs.AllNamed.{IsNamed, IsNamedLocal, IsNamedRoutine}
-use Rattle.kt_check.proofs.Agrees.{Agrees, Has, HasUse, HasNumber, IsField}
+use Rattle.kt_terms.proofs.Agrees.{Agrees, Has, HasUse, HasNumber, IsField}
 use Rattle.kt_check.proofs.StructCells.{AreSame, found-later, same-found, like-at}
 use Rattle.kt_check.proofs.FieldCells.{all-both}
 use Rattle.kt_check.proofs.Made.{Later, Each, FunctionMade}

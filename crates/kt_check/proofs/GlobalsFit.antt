@@ -20,14 +20,14 @@ use Rattle.kt_syntax.specs.declared.tree.Constant.TheVariants as written
 use Rattle.kt_syntax.specs.Tree.{External, StructMentioned, StructDefined, GlobalsDeclared, FunctionDeclared, Routine}
 use Rattle.kt_syntax.specs.declared.tree.GlobalDeclarator.{GlobalDeclarator}
 use Rattle.kt_grammar.specs.declared.tree.Base.{Base}
-use Rattle.kt_check.specs.declared.ctype.Root.{Root}
-use Rattle.kt_check.specs.declared.ctype.Root.TheVariants as root
-use Rattle.kt_check.specs.Environment.{cells_of, is_complete}
-use Rattle.kt_check.specs.Types.{same_ctype, same_root, root_of, starred_place}
-use Rattle.kt_check.specs.Uses.{stars_of, where_there}
-use Rattle.kt_check.specs.Tables.{Literal, OuterGlobal, globals_of, functions_of, global_type, is_array, constant_written, external_written, view_of}
+use Rattle.kt_names.specs.declared.ctype.Root.{Root}
+use Rattle.kt_names.specs.declared.ctype.Root.TheVariants as root
+use Rattle.kt_names.specs.Environment.{cells_of, is_complete}
+use Rattle.kt_names.specs.Types.{same_ctype, same_root, root_of, starred_place}
+use Rattle.kt_names.specs.Uses.{stars_of, where_there}
+use Rattle.kt_names.specs.Tables.{Literal, OuterGlobal, globals_of, functions_of, global_type, is_array, constant_written, external_written, view_of}
 use Rattle.kt_check.specs.Files.{Frame, Sofar, outside, is_array_count, count_of, number_init, constant_number, root_init, mutex_init, pointer_init, is_zero, typed_init, initial_of, with_global, nothing_yet, program_of}
-use Rattle.kt_check.proofs.Agrees.{HasStars}
+use Rattle.kt_terms.proofs.Agrees.{HasStars}
 use Rattle.kt_check.proofs.ExternalTypes.{place-char}
 use Rattle.kt_check.proofs.StructCells.{of, starless}
 use Rattle.kt_check.proofs.FieldCells.{not-ok, same-ok, all-both}

@@ -1,74 +1,23 @@
 -- The first declaration of each function, looked up by its name.
-use Rattle.std.proofs.Common.{if◌then◌else◌, ◌≡◌, ◌==◌, ℕ, Bool, true, false, not, ◌&&◌, ◌||◌, List, [], ◌∷◌, ◌++◌, map, Option, None, Some, Ok, is_some, refl, sym, ap, ◌∙◌, true≢false, rules}
+use Rattle.std.proofs.Common.{if◌then◌else◌, ◌≡◌, ◌==◌, ℕ, Bool, true, false, not, ◌&&◌, ◌||◌, List, [], ◌∷◌, ◌++◌, map, Option, None, Some, Ok, is_some, refl, sym, ap, ◌∙◌, true≢false}
 use Rattle.std.specs.List.{list_any}
-use Rattle.std.specs.Map.{lookup}
 use Rattle.std.specs.Str.{bytes_eq}
-use Rattle.std.specs.Global.{Vec}
-use Rattle.std.proofs.lemmas.Cmp.{nat_list_eq_equiv}
-use Rattle.std.proofs.lemmas.Slice.Eq.{bytes_eq-Decides}
 use Rattle.std.proofs.lemmas.Bool.Decides.{Decides-eqb}
 use Rattle.std.proofs.lemmas.List.{map-append}
-use Rattle.indexmap.specs.IndexMap.{insert_entry}
 use Rattle.kt_syntax.specs.Tree.{Routine, routine_of}
-use Rattle.kt_check.specs.declared.ctype.CType.{CType}
-use Rattle.kt_check.specs.declared.ctype.Root.{Root}
-use Rattle.kt_check.specs.declared.ctype.Root.TheVariants as root
+use Rattle.kt_names.specs.declared.ctype.CType.{CType}
 use Rattle.kt_check.specs.declared.sofar.Head.{Head}
-use Rattle.kt_check.specs.Types.{same_root, same_ctype}
-use Rattle.kt_check.specs.Tables.{result_type, parameter_types}
-use Rattle.kt_check.specs.Statements.{contains}
-use Rattle.kt_check.specs.Functions.{same_types, same_result, same_function, is_defined, is_other_type, agrees}
-use Rattle.kt_check.specs.declared.fault.CheckFault.TheVariants.{Twice, BadType}
-use Rattle.kt_check.specs.Checked.{Checked, fault, holds}
+use Rattle.kt_names.proofs.Inserted.{same, flip, any-append}
+use Rattle.kt_names.proofs.Roots.{same-root}
+use Rattle.kt_names.specs.Types.{same_root, same_ctype}
+use Rattle.kt_names.specs.Tables.{result_type, parameter_types}
+use Rattle.kt_names.specs.Statements.{contains}
+use Rattle.kt_names.specs.Functions.{same_types, same_result, same_function, is_defined, is_other_type, agrees}
+use Rattle.kt_names.specs.declared.fault.CheckFault.TheVariants.{Twice, BadType}
+use Rattle.kt_names.specs.Checked.{Checked, fault, holds}
 use Rattle.kt_check.specs.Stages.{is_head_defined, is_other_head, first_routine}
 
--- ---- names
-
-same : (a b : List ℕ) → bytes_eq a b ≡ true → a ≡ b
-same a b e = (bytes_eq-Decides a b).0 e
-
-flip : (a b : List ℕ) → bytes_eq a b ≡ bytes_eq b a
-flip a b = nat_list_eq_equiv.symm a b
-
-pub any-append : {X : Type 0} (test : X → Bool) (xs : List X) (y : X) → list_any test (xs ++ y ∷ []) ≡ (list_any test xs || (test y || false))
-any-append test [] y = refl
-any-append test (x ∷ xs) y = by (test x) refl (any-append test xs y)
-  where
-    by : (b : Bool) → test x ≡ b → list_any test (xs ++ y ∷ []) ≡ (list_any test xs || (test y || false)) → (test x || list_any test (xs ++ y ∷ [])) ≡ ((test x || list_any test xs) || (test y || false))
-    by true e later = rw e refl
-    by false e later = rw e later
-
-module _ {X : Type 0} (n : List ℕ) (key : Vec ℕ) (v : X) where
-  abbrev found : List (Vec ℕ × X) → Option X
-  found es = lookup (λ k. bytes_eq n k.items) es
-
-  abbrev inserted : List (Vec ℕ × X) → List (Vec ℕ × X)
-  inserted es = insert_entry (λ a b. bytes_eq a.items b.items) es key v
-
-  pub lookup-inserted : (es : List (Vec ℕ × X)) → found (inserted es) ≡ (if bytes_eq n key.items then Some v else found es)
-  lookup-inserted [] = refl
-  lookup-inserted (e ∷ es) = by (bytes_eq key.items e.0.items) (bytes_eq n e.0.items) (bytes_eq n key.items) refl refl refl (lookup-inserted es)
-    where
-      by : (a b c : Bool) → bytes_eq key.items e.0.items ≡ a → bytes_eq n e.0.items ≡ b → bytes_eq n key.items ≡ c → found (inserted es) ≡ (if bytes_eq n key.items then Some v else found es)
-          → found (inserted (e ∷ es)) ≡ (if bytes_eq n key.items then Some v else found (e ∷ es))
-      by true true true i j k later = rw (i, k, j) refl
-      by true true false i j k later = absurd (true≢false (sym j ∙ ap (bytes_eq n) (sym (same key.items e.0.items i)) ∙ k))
-      by true false true i j k later = absurd (true≢false (sym k ∙ ap (bytes_eq n) (same key.items e.0.items i) ∙ j))
-      by true false false i j k later = rw (i, k, j) refl
-      by false true true i j k later = absurd (true≢false (sym ((bytes_eq-Decides key.items e.0.items).1 (sym (same n key.items k) ∙ same n e.0.items j)) ∙ i))
-      by false true false i j k later = rw (i, k, j) refl
-      by false false true i j k later = rw (i, j, later, k) refl
-      by false false false i j k later = rw (i, j, later, k) refl
-
 -- ---- types
-
-pub same-root : (a b : Root) → same_root a b ≡ true → a ≡ b
-same-root root.Char root.Char e = refl
-same-root root.Int root.Int e = refl
-same-root root.Long root.Long e = refl
-same-root root.Mutex root.Mutex e = refl
-same-root (root.Struct s) (root.Struct r) e = ap root.Struct ((Decides-eqb s r).0 e)
-same-root _ _ e = search rules
 
 both : (a b : Bool) → (a && b) ≡ true → (a ≡ true) × (b ≡ true)
 both true b e = (refl, e)

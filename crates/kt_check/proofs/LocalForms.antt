@@ -6,8 +6,8 @@ use Rattle.kt_grammar.specs.declared.tree.Name.{Name}
 use Rattle.kt_syntax.specs.declared.tree.Pointer.{Pointer}
 use Rattle.kt_syntax.specs.declared.tree.Parameter.{Parameter}
 use Rattle.kt_syntax.specs.Tree.{Local, Start, NoStart, Declares, Evaluates, Statement, Declared, Compound, Empty, Evaluated, Returned, Broken, Continued, Conditional, Alternative, Looped, Repeated, Counted, Statements, Nothing, More, Definition, Routine}
-use Rattle.kt_check.specs.Uses.{where_there}
-use Rattle.kt_check.specs.Tables.{DeclaredLocal, declared_type, parameter_local, start_locals, statement_locals, block_locals, locals_of}
+use Rattle.kt_names.specs.Uses.{where_there}
+use Rattle.kt_names.specs.Tables.{DeclaredLocal, declared_type, parameter_local, start_locals, statement_locals, block_locals, locals_of}
 use Rattle.kt_check.proofs.FieldCells.{all-both}
 
 module _ (names : List (List ℕ)) (Q : DeclaredLocal → Type 0) (each : (n : Name) (b : Base) (p : Option Pointer) → Q (record { name = n.word; ty = declared_type names b p; base = b; pointer = p })) where

@@ -7,16 +7,16 @@ use Rattle.kt_syntax.specs.declared.tree.LocalDeclarator.{LocalDeclarator}
 use Rattle.kt_syntax.specs.Tree.{Local, local_of}
 use Rattle.kt_tree.specs.declared.stmt.Stmt.{Stmt}
 use Rattle.kt_tree.specs.Tree.{Statement, Returned, statement_of}
-use Rattle.kt_check.specs.declared.ctype.CType.{CType}
-use Rattle.kt_check.specs.declared.fault.CheckFault.{CheckFault}
-use Rattle.kt_check.specs.declared.fault.CheckFault.TheVariants.{BadType}
-use Rattle.kt_check.specs.Checked.{Checked, and_then, fault}
-use Rattle.kt_check.specs.Operands.{convert}
-use Rattle.kt_check.specs.Terms.{typing, first_token}
-use Rattle.kt_check.specs.Scopes.{returned_of}
-use Rattle.kt_check.specs.Judges.{Fails, Judges}
-use Rattle.kt_check.specs.Statements.{Body, State, here, initial, returned, local, locals_from}
-use Rattle.kt_check.proofs.Parts.{fails}
+use Rattle.kt_names.specs.declared.ctype.CType.{CType}
+use Rattle.kt_names.specs.declared.fault.CheckFault.{CheckFault}
+use Rattle.kt_names.specs.declared.fault.CheckFault.TheVariants.{BadType}
+use Rattle.kt_names.specs.Checked.{Checked, and_then, fault}
+use Rattle.kt_names.specs.Operands.{convert}
+use Rattle.kt_names.specs.Terms.{typing, first_token}
+use Rattle.kt_names.specs.Scopes.{returned_of}
+use Rattle.kt_names.specs.Judges.{Fails, Judges}
+use Rattle.kt_names.specs.Statements.{Body, State, here, initial, returned, local, locals_from}
+use Rattle.kt_names.proofs.Parts.{fails}
 
 pub initial-by : (body : Body) (s r : State) (x : ℕ) (t u : CType) (up at : ℕ) (e : Option Term) (result : Result Stmt CheckFault) → s ≡ r → t ≡ u → up ≡ at
     → Judges statement_of result (initial body s x t up e) → Judges statement_of result (initial body r x u at e)

@@ -6,10 +6,10 @@ use Rattle.kt_types.specs.declared.kinds.Ty.{Ty}
 use Rattle.kt_grammar.specs.declared.tree.Base.{Base}
 use Rattle.kt_syntax.specs.declared.tree.Parameter.{Parameter}
 use Rattle.kt_syntax.specs.Tree.{Local, Declaration, Start, NoStart, Declares, Evaluates, Statement, Declared, Compound, Empty, Evaluated, Returned, Broken, Continued, Conditional, Alternative, Looped, Repeated, Counted, Statements, Nothing, More, Definition, Routine}
-use Rattle.kt_check.specs.Types.{root_of}
-use Rattle.kt_check.specs.Uses.{Use, stars_of, result_stars, where_there, term_uses, local_uses, declaration_uses, start_uses, statement_uses, statements_uses, parameter_uses, result_uses, head_uses, body_uses}
-use Rattle.kt_check.specs.Tables.{DeclaredLocal, parameter_local, locals_in, start_locals, statement_locals, block_locals, locals_of}
-use Rattle.kt_check.proofs.Agrees.{Has, HasUse}
+use Rattle.kt_names.specs.Types.{root_of}
+use Rattle.kt_names.specs.Uses.{Use, stars_of, result_stars, where_there, term_uses, local_uses, declaration_uses, start_uses, statement_uses, statements_uses, parameter_uses, result_uses, head_uses, body_uses}
+use Rattle.kt_names.specs.Tables.{DeclaredLocal, parameter_local, locals_in, start_locals, statement_locals, block_locals, locals_of}
+use Rattle.kt_terms.proofs.Agrees.{Has, HasUse}
 use Rattle.kt_check.proofs.FieldCells.{all-both}
 use Rattle.kt_check.proofs.GlobalsFit.{all-split}
 

@@ -8,13 +8,13 @@ use Rattle.kt_syntax.specs.declared.tree.Pointer.{Pointer}
 use Rattle.kt_syntax.specs.declared.tree.Parameter.{Parameter}
 use Rattle.kt_syntax.specs.Tree.{Local, Declaration, Start, NoStart, Declares, Evaluates, Statement as Syntax, Declared, Compound as Block, Empty, Evaluated as Expr, Returned as Return, Broken as Break, Continued as Continue, Conditional as If, Alternative as IfElse, Looped as While, Repeated as Do, Counted as For, Statements as Entries, Nothing as NoEntries, More as Entry}
 use Rattle.kt_tree.specs.Tree.{Statement, Statements, Then, Compound, Conditional, Looped, Done}
-use Rattle.kt_check.specs.declared.fault.CheckFault.TheVariants.{BadType}
-use Rattle.kt_check.specs.Checked.{Checked, fault, and_then, both}
-use Rattle.kt_check.specs.Types.{ctype, is_scalar}
-use Rattle.kt_check.specs.Uses.{stars_of}
-use Rattle.kt_check.specs.Tables.{DeclaredLocal, parameter_local, locals_in, start_locals, statement_locals, block_locals}
-use Rattle.kt_check.specs.Statements.{Body, State, here, entered, declared, base_for, held, extent_outside, pointer_outside, new_name, local, locals_from, locals, before, condition, effect_of, perhaps, start, statement, entries}
-use Rattle.kt_check.specs.Functions.{parameters}
+use Rattle.kt_names.specs.declared.fault.CheckFault.TheVariants.{BadType}
+use Rattle.kt_names.specs.Checked.{Checked, fault, and_then, both}
+use Rattle.kt_names.specs.Types.{ctype, is_scalar}
+use Rattle.kt_names.specs.Uses.{stars_of}
+use Rattle.kt_names.specs.Tables.{DeclaredLocal, parameter_local, locals_in, start_locals, statement_locals, block_locals}
+use Rattle.kt_names.specs.Statements.{Body, State, here, entered, declared, base_for, held, extent_outside, pointer_outside, new_name, local, locals_from, locals, before, condition, effect_of, perhaps, start, statement, entries}
+use Rattle.kt_names.specs.Functions.{parameters}
 use Rattle.kt_check.proofs.FieldCells.{then-parts, both-parts, holds-true, all-both}
 
 extent-here : (body : Body) (st : State) (x : Extent) → extent_outside (here body st) x ≡ extent_outside body.environment x

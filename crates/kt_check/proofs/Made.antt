@@ -9,13 +9,13 @@ use Rattle.kt_tree.specs.Tree.{Function, Statements, Compound}
 use Rattle.kt_grammar.specs.declared.tree.Name.{Name}
 use Rattle.kt_syntax.specs.declared.tree.Fields.{Fields}
 use Rattle.kt_syntax.specs.Tree.{Definition as Body, Routine}
-use Rattle.kt_check.specs.Checked.{Checked, both, holds}
-use Rattle.kt_check.specs.declared.fault.CheckFault.TheVariants.{Twice}
-use Rattle.kt_check.specs.Environment.{Struct, struct_numbered, is_complete}
-use Rattle.kt_check.specs.Types.{number_of_struct}
-use Rattle.kt_check.specs.Tables.{OuterGlobal, defined_in, global_type}
-use Rattle.kt_check.specs.Statements.{State, entries}
-use Rattle.kt_check.specs.Functions.{result_fault, agrees, parameters, no_state, body_in, is_noted, defined_function, typed_function}
+use Rattle.kt_names.specs.Checked.{Checked, both, holds}
+use Rattle.kt_names.specs.declared.fault.CheckFault.TheVariants.{Twice}
+use Rattle.kt_names.specs.Environment.{Struct, struct_numbered, is_complete}
+use Rattle.kt_names.specs.Types.{number_of_struct}
+use Rattle.kt_names.specs.Tables.{OuterGlobal, defined_in, global_type}
+use Rattle.kt_names.specs.Statements.{State, entries}
+use Rattle.kt_names.specs.Functions.{result_fault, agrees, parameters, no_state, body_in, is_noted, defined_function, typed_function}
 use Rattle.kt_check.specs.Files.{Frame, Sofar, Within, no_field, outside, outer_name, has_global, fields_in, fields_from, field_info, field_decl, global, with_global, function, with_struct, struct}
 use Rattle.kt_check.proofs.AllNamed.{IsNamedDeclarator}
 use Rattle.kt_check.proofs.StructCells.{AreSame}

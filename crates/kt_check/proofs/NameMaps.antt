@@ -5,7 +5,7 @@ use Rattle.std.specs.Str.{bytes_eq}
 use Rattle.std.specs.Global.{Vec}
 use Rattle.std.proofs.lemmas.Cmp.{nat_list_eq_equiv}
 use Rattle.std.proofs.lemmas.Iterator.Adapters.{position_from-zero}
-use Rattle.kt_check.specs.Types.{number_of_struct}
+use Rattle.kt_names.specs.Types.{number_of_struct}
 
 bytes-flip : (a b : List ℕ) → bytes_eq a b ≡ bytes_eq b a
 bytes-flip a b = nat_list_eq_equiv.symm a b

@@ -9,9 +9,9 @@ use Rattle.std.proofs.lemmas.Slice.Eq.{bytes_eq-Decides}
 use Rattle.std.proofs.lemmas.Bool.Decides.{Decides-eqb}
 use Rattle.kt_types.proofs.Keeps.{slice_get-push}
 use Rattle.kt_tree.specs.Version.{AreDistinct}
-use Rattle.kt_check.specs.Types.{has_by, with_name, with_names}
-use Rattle.kt_check.specs.Builtins.{point_number}
-use Rattle.kt_check.specs.Tables.{Written, Literal, Updates, Asks, literals_in, literal_places, literal_number, updates_in, asks_in}
+use Rattle.kt_names.specs.Types.{has_by, with_name, with_names}
+use Rattle.kt_names.specs.Builtins.{point_number}
+use Rattle.kt_names.specs.Tables.{Written, Literal, Updates, Asks, literals_in, literal_places, literal_number, updates_in, asks_in}
 use Rattle.kt_check.proofs.TypePlaces.{found-at, found-before, found-last, found-some, some-of}
 
 -- ---- names

@@ -14,11 +14,11 @@ use Rattle.kt_tree.specs.Tree.{Function, Statements, Compound}
 use Rattle.kt_tree.specs.Names.{is_identifier}
 use Rattle.kt_tree.specs.Version.{AreDistinct, AreIdentifiers, outer_names}
 use Rattle.kt_syntax.specs.Tree.{Definition as Body, Routine}
-use Rattle.kt_check.specs.declared.fault.CheckFault.TheVariants.{Twice}
-use Rattle.kt_check.specs.Checked.{Checked, holds, fault}
-use Rattle.kt_check.specs.Tables.{OuterGlobal, global_name, globals_of, functions_of, defined_in, defined_of}
-use Rattle.kt_check.specs.Statements.{State, entries}
-use Rattle.kt_check.specs.Functions.{agrees, is_defined, result_fault, parameters, no_state, body_in, is_noted, defined_function, typed_function}
+use Rattle.kt_names.specs.declared.fault.CheckFault.TheVariants.{Twice}
+use Rattle.kt_names.specs.Checked.{Checked, holds, fault}
+use Rattle.kt_names.specs.Tables.{OuterGlobal, global_name, globals_of, functions_of, defined_in, defined_of}
+use Rattle.kt_names.specs.Statements.{State, entries}
+use Rattle.kt_names.specs.Functions.{agrees, is_defined, result_fault, parameters, no_state, body_in, is_noted, defined_function, typed_function}
 use Rattle.kt_check.specs.Files.{Frame, Sofar, outside, outer_name, has_global, has_routine, with_global, nothing_yet, program_of}
 use Rattle.kt_check.proofs.AllNamed.{IsNamed, IsNamedDeclarator, IsNamedRoutine}
 use Rattle.kt_check.proofs.FieldCells.{not-ok, same-ok, both-parts, holds-true}

@@ -10,7 +10,7 @@ use Rattle.kt_grammar.specs.Tree.{Term, Constant, Character, Text, Null, Eof, Na
 use Rattle.kt_syntax.specs.declared.tree.GlobalDeclarator.{GlobalDeclarator}
 use Rattle.kt_syntax.specs.declared.tree.Parameter.{Parameter}
 use Rattle.kt_syntax.specs.Tree.{Local, Start, NoStart, Declares, Evaluates, Statement, Declared, Compound, Empty, Evaluated, Returned, Broken, Continued, Conditional, Alternative, Looped, Repeated, Counted, Statements, Nothing as NoStatements, More as Then, Definition, Routine}
-use Rattle.kt_check.specs.Uses.{Use, Starred, Arrayed, where_there, result_stars, called_uses, term_uses, terms_uses, local_uses, start_uses, statement_uses, statements_uses, global_uses, parameter_uses, result_uses, head_uses, body_uses}
+use Rattle.kt_names.specs.Uses.{Use, Starred, Arrayed, where_there, result_stars, called_uses, term_uses, terms_uses, local_uses, start_uses, statement_uses, statements_uses, global_uses, parameter_uses, result_uses, head_uses, body_uses}
 use Rattle.kt_check.proofs.FieldCells.{all-both}
 
 abbrev pub IsPlainUse : Use → Type 0

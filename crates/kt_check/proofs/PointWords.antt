@@ -4,7 +4,7 @@ use Rattle.std.specs.List.{AllByRecursion, list_all}
 use Rattle.std.proofs.lemmas.Bool.{and_from}
 use Rattle.kt_tree.specs.Names.{is_point_name}
 use Rattle.kt_syntax.specs.Tree.{External}
-use Rattle.kt_check.specs.Tables.{Written, Literal, Updates, Asks, written_of, updates_in, asks_in, update_names, point_names}
+use Rattle.kt_names.specs.Tables.{Written, Literal, Updates, Asks, written_of, updates_in, asks_in, update_names, point_names}
 use Rattle.kt_check.proofs.NameTables.{names-all}
 
 -- a name of a point has the form of one

@@ -11,12 +11,12 @@ use Rattle.kt_types.proofs.Cells.{slice_get-append_left}
 use Rattle.kt_types.proofs.Growth.{IsFront, joined-grows, place-grows, struct-grows-types}
 use Rattle.kt_tree.specs.Kinds.{field_pointee_of}
 use Rattle.kt_lex.specs.declared.number.Number.{Number}
-use Rattle.kt_check.specs.declared.ctype.Root.{Root}
-use Rattle.kt_check.specs.Environment.{FieldOf, Struct}
-use Rattle.kt_check.specs.Types.{root_type, root_of, place_of_type, starred_place, place_in}
-use Rattle.kt_check.specs.Uses.{stars_of}
+use Rattle.kt_names.specs.declared.ctype.Root.{Root}
+use Rattle.kt_names.specs.Environment.{FieldOf, Struct}
+use Rattle.kt_names.specs.Types.{root_type, root_of, place_of_type, starred_place, place_in}
+use Rattle.kt_names.specs.Uses.{stars_of}
 use Rattle.kt_check.specs.Files.{Frame, OneField, is_array_count, field_decl, field_view}
-use Rattle.kt_check.proofs.Agrees.{HasStars}
+use Rattle.kt_terms.proofs.Agrees.{HasStars}
 use Rattle.kt_check.proofs.TypePlaces.{Extends, in-place, stars-place, stars-more}
 use Rattle.kt_check.proofs.ExternalTypes.{CountHas, array-has}
 use Rattle.kt_check.proofs.StructCells.{IsLike, AreLike, AreSame}

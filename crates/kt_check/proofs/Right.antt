@@ -8,17 +8,17 @@ use Rattle.std.proofs.lemmas.List.{map-append}
 use Rattle.kt_grammar.specs.declared.tree.Base.{Base}
 use Rattle.kt_syntax.specs.declared.tree.GlobalDeclarator.{GlobalDeclarator}
 use Rattle.kt_tree.specs.declared.global.GlobalDecl.{GlobalDecl}
-use Rattle.kt_check.specs.declared.fault.CheckFault.{CheckFault}
-use Rattle.kt_check.specs.Checked.{Checked, and_then, both, holds}
-use Rattle.kt_check.specs.Environment.{cells_of}
-use Rattle.kt_check.specs.declared.fault.CheckFault.TheVariants.{Twice, TooBig}
+use Rattle.kt_names.specs.declared.fault.CheckFault.{CheckFault}
+use Rattle.kt_names.specs.Checked.{Checked, and_then, both, holds}
+use Rattle.kt_names.specs.Environment.{cells_of}
+use Rattle.kt_names.specs.declared.fault.CheckFault.TheVariants.{Twice, TooBig}
 use Rattle.kt_tree.specs.declared.global.Init.{Init}
-use Rattle.kt_check.specs.Statements.{State, pointer_outside, declarator_place, contains}
-use Rattle.kt_check.specs.Tables.{declared_type}
+use Rattle.kt_names.specs.Statements.{State, pointer_outside, declarator_place, contains}
+use Rattle.kt_names.specs.Tables.{declared_type}
 use Rattle.kt_check.specs.Files.{Frame, Sofar, outside, is_array_count, count_of, has_global, has_routine, outer_name, initial_of, global, function}
 use Rattle.kt_check.specs.Stages.{init_parts, once_parts, named_parts, global_parts, global_decl, agreed_parts, new_parts, outer_parts, function_parts, function_body_of, with_routine, with_bodies}
 use Rattle.kt_syntax.specs.Tree.{Routine}
-use Rattle.kt_check.specs.Functions.{agrees, parameters, body_in, is_noted, no_state, result_fault, defined_function}
+use Rattle.kt_names.specs.Functions.{agrees, parameters, body_in, is_noted, no_state, result_fault, defined_function}
 use Rattle.kt_check.proofs.NameMaps.{names-any}
 
 abbrev left : {A B : Type 0} → Checked (A × B) → Checked A

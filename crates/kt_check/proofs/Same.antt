@@ -3,8 +3,8 @@ use Rattle.std.proofs.Common.{◌≡◌, ◌==◌, ℕ, suc, ◌-◌, ◌≤◌,
 use Rattle.std.proofs.lemmas.Bool.Decides.{nat_tests}
 use Rattle.std.proofs.lemmas.List.{length-map, length-drop, drop_all}
 use Rattle.kt_syntax.specs.declared.tree.Parameter.{Parameter}
-use Rattle.kt_check.specs.declared.ctype.CType.{CType}
-use Rattle.kt_check.specs.Functions.{same_types}
+use Rattle.kt_names.specs.declared.ctype.CType.{CType}
+use Rattle.kt_names.specs.Functions.{same_types}
 use Rattle.kt_check.specs.Files.{Frame}
 use Rattle.kt_check.specs.Stages.{types_in}
 

@@ -11,13 +11,13 @@ use Rattle.kt_tree.specs.Tree.{Function as Fun}
 use Rattle.kt_tree.specs.Names.{is_identifier}
 use Rattle.kt_tree.specs.Version.{Program, HasOnePlaces, IsProgram, IsMain}
 use Rattle.kt_syntax.specs.Tree.{Tree, Routine, External}
-use Rattle.kt_check.specs.declared.fault.CheckFault.{CheckFault}
-use Rattle.kt_check.specs.declared.fault.CheckFault.TheVariants.{NoMain}
-use Rattle.kt_check.specs.Checked.{Checked, first, fault}
-use Rattle.kt_check.specs.Types.{place_in, scalars, int}
-use Rattle.kt_check.specs.Uses.{structs_of}
-use Rattle.kt_check.specs.Tables.{Written, Literal, Updates, Asks, struct_names, types_of, globals_of, functions_of, defined_in, defined_of, result_type, written_of, updates_in, asks_in, update_names, point_names}
-use Rattle.kt_check.specs.Functions.{same_result}
+use Rattle.kt_names.specs.declared.fault.CheckFault.{CheckFault}
+use Rattle.kt_names.specs.declared.fault.CheckFault.TheVariants.{NoMain}
+use Rattle.kt_names.specs.Checked.{Checked, first, fault}
+use Rattle.kt_names.specs.Types.{place_in, scalars, int}
+use Rattle.kt_names.specs.Uses.{structs_of}
+use Rattle.kt_names.specs.Tables.{Written, Literal, Updates, Asks, struct_names, types_of, globals_of, functions_of, defined_in, defined_of, result_type, written_of, updates_in, asks_in, update_names, point_names}
+use Rattle.kt_names.specs.Functions.{same_result}
 use Rattle.kt_check.specs.Files.{Frame, Sofar, frame_of, nothing_yet, externals, is_main, has_main, program_of, typed_file, version_of}
 use Rattle.kt_check.specs.Named.{AreNamed}
 use Rattle.kt_check.proofs.AllNamed.{IsNamed, externals-all}
@@ -37,7 +37,7 @@ use Rattle.kt_check.proofs.FunctionsFit.{all-functions-fit}
 use Rattle.kt_check.proofs.ListFacts.{all-from}
 use Rattle.kt_check.proofs.TypePlaces.{Extends}
 use Rattle.kt_check.proofs.TypeOrder.{types-ordered}
-use Rattle.kt_check.specs.Statements.{State}
+use Rattle.kt_names.specs.Statements.{State}
 
 -- ---- numbers of what is written
 

@@ -18,17 +18,17 @@ use Rattle.kt_tree.specs.Kinds.{Scope}
 use Rattle.kt_tree.specs.Typed.{fits}
 use Rattle.kt_tree.specs.Tree.{Function, Compound}
 use Rattle.kt_tree.specs.Version.{AreDistinct, is_result_type}
-use Rattle.kt_check.specs.declared.ctype.CType.{CType}
-use Rattle.kt_check.specs.Checked.{both}
-use Rattle.kt_check.specs.Environment.{Environment}
-use Rattle.kt_check.specs.Types.{is_scalar}
-use Rattle.kt_check.specs.Uses.{where_there, stars_of, body_uses}
-use Rattle.kt_check.specs.Tables.{DeclaredLocal, parameter_local, block_locals, block_written, result_type, view_of}
-use Rattle.kt_check.specs.Statements.{Body, State, base_for, held, pointer_outside, new_name, contains, declared, entries}
-use Rattle.kt_check.specs.Functions.{parameters, no_state, body_in, is_noted, typed_function, defined_function}
-use Rattle.kt_check.proofs.Agrees.{Agrees, ResultHolds, Known}
-use Rattle.kt_check.proofs.Gives.{Gives, given, afterwards, pair, weaken, when-held, anything, same-ok}
-use Rattle.kt_check.proofs.SoundTypes.{scalar-there}
+use Rattle.kt_names.specs.declared.ctype.CType.{CType}
+use Rattle.kt_names.specs.Checked.{both}
+use Rattle.kt_names.specs.Environment.{Environment}
+use Rattle.kt_names.specs.Types.{is_scalar}
+use Rattle.kt_names.specs.Uses.{where_there, stars_of, body_uses}
+use Rattle.kt_names.specs.Tables.{DeclaredLocal, parameter_local, block_locals, block_written, result_type, view_of}
+use Rattle.kt_names.specs.Statements.{Body, State, base_for, held, pointer_outside, new_name, contains, declared, entries}
+use Rattle.kt_names.specs.Functions.{parameters, no_state, body_in, is_noted, typed_function, defined_function}
+use Rattle.kt_terms.proofs.Agrees.{Agrees, ResultHolds, Known}
+use Rattle.kt_terms.proofs.Gives.{Gives, given, afterwards, pair, weaken, when-held, anything, same-ok}
+use Rattle.kt_terms.proofs.SoundTypes.{scalar-there}
 use Rattle.kt_check.proofs.SoundStatements.{Each, after, each-first, each-second, each-both, Stands, IsNew, Sees, IsBlock, sees-more, name-sound, entries-sound}
 
 -- what typing answers for of a function in a scope

@@ -12,23 +12,23 @@ use Rattle.kt_syntax.specs.Tree.{Local, Declaration, Start, NoStart, Declares, E
 use Rattle.kt_tree.specs.Kinds.{Scope}
 use Rattle.kt_tree.specs.Typed.{kind, is_condition, all_of, fits, all_fit}
 use Rattle.kt_tree.specs.Tree.{Expression, LocalSet, Statement, Evaluated, Undefined, Compound, Conditional, Looped, Repeated, Returned, Broken, Continued, Statements, Done, Then}
-use Rattle.kt_check.specs.declared.ctype.CType.{CType}
-use Rattle.kt_check.specs.declared.fault.CheckFault.TheVariants.{BadType}
-use Rattle.kt_check.specs.Checked.{Checked, fault, and_then, holds}
-use Rattle.kt_check.specs.Environment.{local_named}
-use Rattle.kt_check.specs.Operands.{Operand, NoResult, scalar, convert}
-use Rattle.kt_check.specs.Builtins.{builtin_named}
-use Rattle.kt_check.specs.Terms.{typing, first_token}
-use Rattle.kt_check.specs.Types.{is_scalar, ctype}
-use Rattle.kt_check.specs.Uses.{Use, stars_of, where_there, term_uses, local_uses, declaration_uses, start_uses, statement_uses, statements_uses}
-use Rattle.kt_check.specs.Tables.{Written, DeclaredLocal, locals_in, start_locals, statement_locals, block_locals, term_written, declaration_written, start_written, statement_written, block_written}
-use Rattle.kt_check.specs.Statements.{Body, State, here, entered, contains, declared, declarator_place, base_for, held, pointer_outside, new_name, initial, local, locals_from, locals, before, effect, effect_of, condition, perhaps, returned, start, statement, entries}
-use Rattle.kt_check.proofs.Agrees.{Agrees, ResultHolds, Known}
-use Rattle.kt_check.proofs.Gives.{Gives, given, faulty, if-test, by-test, afterwards, pair, when-held, anything}
-use Rattle.kt_check.proofs.SoundTypes.{number-itself, scalar-there}
-use Rattle.kt_check.proofs.SoundOperands.{ValueOf, IsOperand, IsValue, scalar-sound, convert-sound}
-use Rattle.kt_check.proofs.SoundCalls.{known-parts}
-use Rattle.kt_check.proofs.SoundTerms.{typing-sound}
+use Rattle.kt_names.specs.declared.ctype.CType.{CType}
+use Rattle.kt_names.specs.declared.fault.CheckFault.TheVariants.{BadType}
+use Rattle.kt_names.specs.Checked.{Checked, fault, and_then, holds}
+use Rattle.kt_names.specs.Environment.{local_named}
+use Rattle.kt_names.specs.Operands.{Operand, NoResult, scalar, convert}
+use Rattle.kt_names.specs.Builtins.{builtin_named}
+use Rattle.kt_names.specs.Terms.{typing, first_token}
+use Rattle.kt_names.specs.Types.{is_scalar, ctype}
+use Rattle.kt_names.specs.Uses.{Use, stars_of, where_there, term_uses, local_uses, declaration_uses, start_uses, statement_uses, statements_uses}
+use Rattle.kt_names.specs.Tables.{Written, DeclaredLocal, locals_in, start_locals, statement_locals, block_locals, term_written, declaration_written, start_written, statement_written, block_written}
+use Rattle.kt_names.specs.Statements.{Body, State, here, entered, contains, declared, declarator_place, base_for, held, pointer_outside, new_name, initial, local, locals_from, locals, before, effect, effect_of, condition, perhaps, returned, start, statement, entries}
+use Rattle.kt_terms.proofs.Agrees.{Agrees, ResultHolds, Known}
+use Rattle.kt_terms.proofs.Gives.{Gives, given, faulty, if-test, by-test, afterwards, pair, when-held, anything}
+use Rattle.kt_terms.proofs.SoundTypes.{number-itself, scalar-there}
+use Rattle.kt_terms.proofs.SoundOperands.{ValueOf, IsOperand, IsValue, scalar-sound, convert-sound}
+use Rattle.kt_terms.proofs.SoundCalls.{known-parts}
+use Rattle.kt_terms.proofs.SoundTerms.{typing-sound}
 
 -- ---- locals, each with its number
 

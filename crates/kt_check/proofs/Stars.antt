@@ -1,10 +1,10 @@
 -- What typing finds of the stars of a declarator's pointer.
 use Rattle.std.proofs.Common.{◌≡◌, ℕ, zero, suc, ◌≤◌, ◌==◌, List, Option, Some, None, Ok, if◌then◌else◌, refl, sym, ap, ◌∙◌, arith}
 use Rattle.kt_syntax.specs.declared.tree.Pointer.{Pointer}
-use Rattle.kt_check.specs.declared.fault.CheckFault.TheVariants.{BadType}
-use Rattle.kt_check.specs.Checked.{Checked, fault}
-use Rattle.kt_check.specs.Environment.{Environment}
-use Rattle.kt_check.specs.Statements.{pointer_outside}
+use Rattle.kt_names.specs.declared.fault.CheckFault.TheVariants.{BadType}
+use Rattle.kt_names.specs.Checked.{Checked, fault}
+use Rattle.kt_names.specs.Environment.{Environment}
+use Rattle.kt_names.specs.Statements.{pointer_outside}
 use Rattle.kt_check.specs.Files.{OneField, pointer_inside}
 use Rattle.kt_check.proofs.StructCells.{starless}
 use Rattle.kt_check.proofs.FieldCells.{not-ok}

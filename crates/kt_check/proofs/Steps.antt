@@ -10,13 +10,13 @@ use Rattle.kt_grammar.specs.declared.tree.Name.{Name}
 use Rattle.kt_syntax.specs.declared.tree.GlobalDeclarator.{GlobalDeclarator}
 use Rattle.kt_syntax.specs.declared.tree.Fields.{Fields}
 use Rattle.kt_syntax.specs.Tree.{Routine, External, StructMentioned, StructDefined, GlobalsDeclared, FunctionDeclared}
-use Rattle.kt_check.specs.Environment.{is_complete}
-use Rattle.kt_check.specs.Uses.{stars_of, head_uses, body_uses}
-use Rattle.kt_check.specs.Tables.{OuterGlobal, globals_in, globals_of, functions_in, functions_of, global_type}
-use Rattle.kt_check.specs.Statements.{base_for}
+use Rattle.kt_names.specs.Environment.{is_complete}
+use Rattle.kt_names.specs.Uses.{stars_of, head_uses, body_uses}
+use Rattle.kt_names.specs.Tables.{OuterGlobal, globals_in, globals_of, functions_in, functions_of, global_type}
+use Rattle.kt_names.specs.Statements.{base_for}
 use Rattle.kt_check.specs.Files.{Frame, Sofar, outside, fields_in, global, with_global, globals_from, function, struct, external, externals}
 use Rattle.kt_check.proofs.AllNamed.{IsNamedDeclarator, IsNamedRoutine, IsNamed}
-use Rattle.kt_check.proofs.Agrees.{HasUse}
+use Rattle.kt_terms.proofs.Agrees.{HasUse}
 use Rattle.kt_check.proofs.ExternalTypes.{FieldsHave, GlobalHas, ExternalHas}
 use Rattle.kt_check.proofs.FieldCells.{all-both, then-parts, same-ok, base-complete}
 

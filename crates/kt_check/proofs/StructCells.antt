@@ -9,12 +9,12 @@ use Rattle.kt_types.specs.declared.kinds.FieldDecl.{FieldDecl}
 use Rattle.kt_types.specs.Table.{Definition, fields_by}
 use Rattle.kt_types.specs.Layout.{repeated, joined, type_cells, place_cells, struct_cells}
 use Rattle.kt_types.proofs.Laws.{place-alone}
-use Rattle.kt_check.specs.declared.ctype.Root.{Root}
-use Rattle.kt_check.specs.declared.ctype.Root.TheVariants as root
-use Rattle.kt_check.specs.declared.ctype.CType.{CType}
-use Rattle.kt_check.specs.Types.{pointer_to, root_type, starred_place, place_in, place_of_type}
-use Rattle.kt_check.specs.Environment.{Environment, FieldOf, Struct, struct_numbered, is_complete, cells_of}
-use Rattle.kt_check.proofs.Agrees.{HasStars, Has}
+use Rattle.kt_names.specs.declared.ctype.Root.{Root}
+use Rattle.kt_names.specs.declared.ctype.Root.TheVariants as root
+use Rattle.kt_names.specs.declared.ctype.CType.{CType}
+use Rattle.kt_names.specs.Types.{pointer_to, root_type, starred_place, place_in, place_of_type}
+use Rattle.kt_names.specs.Environment.{Environment, FieldOf, Struct, struct_numbered, is_complete, cells_of}
+use Rattle.kt_terms.proofs.Agrees.{HasStars, Has}
 use Rattle.kt_check.proofs.TypePlaces.{IsIn, some-of}
 use Rattle.kt_tree.specs.Kinds.{field_pointee_of}
 

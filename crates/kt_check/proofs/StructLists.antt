@@ -4,20 +4,20 @@ use Rattle.std.specs.Map.{lookup}
 use Rattle.kt_types.specs.declared.kinds.FieldDecl.{FieldDecl}
 use Rattle.kt_grammar.specs.declared.tree.Name.{Name}
 use Rattle.kt_syntax.specs.declared.tree.Fields.{Fields}
-use Rattle.kt_check.specs.declared.fault.CheckFault.TheVariants.{Twice}
-use Rattle.kt_check.specs.declared.info.StructInfo.{StructInfo}
+use Rattle.kt_names.specs.declared.fault.CheckFault.TheVariants.{Twice}
+use Rattle.kt_names.specs.declared.info.StructInfo.{StructInfo}
 use Rattle.kt_check.specs.declared.sofar.Defined.{Defined}
-use Rattle.kt_check.specs.Checked.{holds}
-use Rattle.kt_check.specs.Environment.{FieldOf, Struct, struct_numbered}
-use Rattle.kt_check.specs.Types.{number_of_struct}
-use Rattle.kt_check.specs.Views.{latest_first, struct_of, fields_of}
+use Rattle.kt_names.specs.Checked.{holds}
+use Rattle.kt_names.specs.Environment.{FieldOf, Struct, struct_numbered}
+use Rattle.kt_names.specs.Types.{number_of_struct}
+use Rattle.kt_names.specs.Views.{latest_first, struct_of, fields_of}
 use Rattle.kt_check.specs.Files.{Frame, Sofar, Within, no_field, fields_in, fields_from}
 use Rattle.kt_check.specs.Shapes.{struct_parts}
 use Rattle.kt_check.specs.Stages.{definition_seen}
-use Rattle.kt_check.proofs.Lookups.{or_else, struct-push}
-use Rattle.kt_check.proofs.Noted.{flip-eq}
+use Rattle.kt_names.proofs.Lookups.{or_else, struct-push}
+use Rattle.kt_names.proofs.Noted.{flip-eq}
 use Rattle.kt_check.proofs.Right.{both-right, holds-right, not-true}
-use Rattle.kt_check.proofs.Visibles.{latest-push}
+use Rattle.kt_names.proofs.Visibles.{latest-push}
 
 module _ (s : ℕ) where
   abbrev found : List (ℕ × StructInfo) → Option StructInfo

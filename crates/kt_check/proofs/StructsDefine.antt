@@ -17,16 +17,16 @@ use Rattle.kt_grammar.specs.declared.tree.Base.{Base}
 use Rattle.kt_grammar.specs.declared.tree.Name.{Name}
 use Rattle.kt_syntax.specs.declared.tree.Declarator.{Declarator}
 use Rattle.kt_syntax.specs.declared.tree.Fields.{Fields}
-use Rattle.kt_check.specs.declared.fault.CheckFault.TheVariants.{Twice, TooBig}
-use Rattle.kt_check.specs.Checked.{holds}
-use Rattle.kt_check.specs.Environment.{Struct, struct_numbered, is_complete, cells_of}
-use Rattle.kt_check.specs.Types.{number_of_struct, root_of, starred_place}
-use Rattle.kt_check.specs.Uses.{stars_of}
-use Rattle.kt_check.specs.Statements.{base_for, contains}
+use Rattle.kt_names.specs.declared.fault.CheckFault.TheVariants.{Twice, TooBig}
+use Rattle.kt_names.specs.Checked.{holds}
+use Rattle.kt_names.specs.Environment.{Struct, struct_numbered, is_complete, cells_of}
+use Rattle.kt_names.specs.Types.{number_of_struct, root_of, starred_place}
+use Rattle.kt_names.specs.Uses.{stars_of}
+use Rattle.kt_names.specs.Statements.{base_for, contains}
 use Rattle.kt_check.specs.Files.{Frame, Sofar, OneField, Within, no_field, outside, is_array_count, count_of, fields_in, field_cells, field, fields_with, fields_of_base, fields_from, field_decl, pointer_inside, struct}
 use Rattle.kt_check.proofs.StructCells.{AreSame, cells-at, complete-cells}
-use Rattle.kt_check.proofs.Agrees.{HasStars}
-use Rattle.kt_check.specs.Tables.{declared_type}
+use Rattle.kt_terms.proofs.Agrees.{HasStars}
+use Rattle.kt_names.specs.Tables.{declared_type}
 use Rattle.kt_check.proofs.FieldCells.{then-parts, both-parts, holds-true, same-ok, from-typed, fields-have, fields-cells}
 use Rattle.kt_check.proofs.ExternalTypes.{FieldsHave}
 use Rattle.kt_check.proofs.Made.{struct-made}

@@ -14,11 +14,11 @@ use Rattle.kt_syntax.specs.declared.tree.Declarator.{Declarator}
 use Rattle.kt_syntax.specs.declared.tree.GlobalDeclarator.{GlobalDeclarator}
 use Rattle.kt_syntax.specs.declared.tree.Fields.{Fields}
 use Rattle.kt_syntax.specs.Tree.{External, StructMentioned, StructDefined, GlobalsDeclared, FunctionDeclared}
-use Rattle.kt_check.specs.declared.ctype.Root.{Root}
-use Rattle.kt_check.specs.declared.ctype.Root.TheVariants as root
-use Rattle.kt_check.specs.Uses.{Use, Starred, Arrayed, stars_of, base_structs, use_structs, declared_structs, body_structs, structs_of, counted_uses, field_uses, fields_uses, global_uses, head_uses, body_uses, external_uses, uses_of}
-use Rattle.kt_check.specs.Types.{has_by, same_type, place_of_type, with_type, root_type, root_of, starred_place, with_starred, with_use, with_uses, scalars}
-use Rattle.kt_check.specs.Tables.{struct_names, types_of}
+use Rattle.kt_names.specs.declared.ctype.Root.{Root}
+use Rattle.kt_names.specs.declared.ctype.Root.TheVariants as root
+use Rattle.kt_names.specs.Uses.{Use, Starred, Arrayed, stars_of, base_structs, use_structs, declared_structs, body_structs, structs_of, counted_uses, field_uses, fields_uses, global_uses, head_uses, body_uses, external_uses, uses_of}
+use Rattle.kt_names.specs.Types.{has_by, same_type, place_of_type, with_type, root_type, root_of, starred_place, with_starred, with_use, with_uses, scalars}
+use Rattle.kt_names.specs.Tables.{struct_names, types_of}
 use Rattle.kt_check.proofs.TypePlaces.{found-at, found-some, same-type-self}
 use Rattle.kt_check.proofs.FieldCells.{all-both}
 use Rattle.kt_check.proofs.NameTables.{Found, found-below, names-found}

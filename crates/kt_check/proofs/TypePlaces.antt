@@ -7,10 +7,10 @@ use Rattle.std.proofs.lemmas.Option.{none-some, same_Some}
 use Rattle.std.proofs.lemmas.Bool.Decides.{Decides-eqb}
 use Rattle.kt_types.specs.declared.kinds.Ty.{Ty}
 use Rattle.kt_types.specs.declared.kinds.Ty.TheVariants as ty
-use Rattle.kt_check.specs.declared.ctype.Root.{Root}
-use Rattle.kt_check.specs.Uses.{Use, Starred, Arrayed}
-use Rattle.kt_check.specs.Types.{has_by, same_type, place_of_type, with_type, root_type, root_of, starred_place, with_starred, with_use, with_uses}
-use Rattle.kt_check.proofs.Agrees.{HasStars, HasUse}
+use Rattle.kt_names.specs.declared.ctype.Root.{Root}
+use Rattle.kt_names.specs.Uses.{Use, Starred, Arrayed}
+use Rattle.kt_names.specs.Types.{has_by, same_type, place_of_type, with_type, root_type, root_of, starred_place, with_starred, with_use, with_uses}
+use Rattle.kt_terms.proofs.Agrees.{HasStars, HasUse}
 
 -- ---- the first that passes a test
 

@@ -15,16 +15,16 @@ use Rattle.kt_grammar.specs.declared.tree.Base.TheVariants as base
 use Rattle.kt_syntax.specs.declared.tree.Extent.{Extent}
 use Rattle.kt_syntax.specs.declared.tree.Extent.TheVariants as extent
 use Rattle.kt_syntax.specs.declared.tree.Pointer.{Pointer}
-use Rattle.kt_check.specs.declared.ctype.Root.{Root}
-use Rattle.kt_check.specs.declared.ctype.Root.TheVariants as root
-use Rattle.kt_check.specs.Checked.{Checked}
-use Rattle.kt_check.specs.Environment.{Outer, Global, Function}
-use Rattle.kt_check.specs.Types.{is_integer, is_integer_root, root_of, root_type, starred_place, place_in, scalars}
-use Rattle.kt_check.specs.Uses.{stars_of}
-use Rattle.kt_check.specs.Tables.{OuterGlobal, globals_of, plain_view, global_view, outer_view, view_of}
-use Rattle.kt_check.specs.Statements.{pointer_outside, extent_outside, is_count}
+use Rattle.kt_names.specs.declared.ctype.Root.{Root}
+use Rattle.kt_names.specs.declared.ctype.Root.TheVariants as root
+use Rattle.kt_names.specs.Checked.{Checked}
+use Rattle.kt_names.specs.Environment.{Outer, Global, Function}
+use Rattle.kt_names.specs.Types.{is_integer, is_integer_root, root_of, root_type, starred_place, place_in, scalars}
+use Rattle.kt_names.specs.Uses.{stars_of}
+use Rattle.kt_names.specs.Tables.{OuterGlobal, globals_of, plain_view, global_view, outer_view, view_of}
+use Rattle.kt_names.specs.Statements.{pointer_outside, extent_outside, is_count}
 use Rattle.kt_check.specs.Files.{Frame, Sofar, outside, program_of}
-use Rattle.kt_check.proofs.Agrees.{HasStars}
+use Rattle.kt_terms.proofs.Agrees.{HasStars}
 use Rattle.kt_check.proofs.TypePlaces.{Extends}
 use Rattle.kt_check.proofs.ExternalTypes.{GlobalHas, has-char, place-char}
 use Rattle.kt_check.proofs.StructCells.{of, starless}

@@ -1,10 +1,10 @@
 -- The typing of a whole file, behind that of its declarations.
 use Rattle.std.proofs.Common.{◌≡◌, ◌⊎◌, Bool, true, false, Result, Ok, Err, IfOk, IfErr, refl, sym, ap, ◌∙◌, if◌then◌else◌}
 use Rattle.kt_syntax.specs.Tree.{Tree}
-use Rattle.kt_check.specs.declared.fault.CheckFault.{CheckFault}
-use Rattle.kt_check.specs.declared.fault.CheckFault.TheVariants.{NoMain, NoMemory}
-use Rattle.kt_check.specs.Checked.{Checked, and_then, fault, first}
-use Rattle.kt_check.specs.Judges.{Judges}
+use Rattle.kt_names.specs.declared.fault.CheckFault.{CheckFault}
+use Rattle.kt_names.specs.declared.fault.CheckFault.TheVariants.{NoMain, NoMemory}
+use Rattle.kt_names.specs.Checked.{Checked, and_then, fault, first}
+use Rattle.kt_names.specs.Judges.{Judges}
 use Rattle.kt_check.specs.Files.{Sofar, frame_of, externals, nothing_yet, has_main, program_of, typed_file}
 use Rattle.kt_check.specs.Stages.{typed_from}
 use Rattle.kt_check.proofs.Right.{follows-twice}

@@ -8,17 +8,17 @@ use Rattle.kt_syntax.specs.declared.tree.Constant.TheVariants as written
 use Rattle.kt_syntax.specs.declared.tree.GlobalDeclarator.{GlobalDeclarator}
 use Rattle.kt_syntax.specs.Tree.{Local, Declaration, Start, NoStart, Declares, Evaluates, Statement as Syntax, Declared, Compound as Block, Empty, Evaluated as Expr, Returned as Return, Broken as Break, Continued as Continue, Conditional as If', Alternative as IfElse, Looped as While, Repeated as Do, Counted as For, Statements as Entries, Nothing as NoEntries, More as Entry, Definition, Routine, External, StructMentioned, StructDefined, GlobalsDeclared, FunctionDeclared}
 use Rattle.kt_tree.specs.Tree.{Statement, Then, Compound, Evaluated, Conditional, Looped, Repeated, Returned, Done, LocalSet, Function}
-use Rattle.kt_check.specs.declared.ctype.CType.{CType}
-use Rattle.kt_check.specs.declared.fault.CheckFault.TheVariants.{BadType}
-use Rattle.kt_check.specs.Checked.{Checked, and_then, fault}
-use Rattle.kt_check.specs.Environment.{Environment}
-use Rattle.kt_check.specs.Types.{ctype}
-use Rattle.kt_check.specs.Operands.{convert}
-use Rattle.kt_check.specs.Terms.{typing, first_token}
-use Rattle.kt_check.specs.Uses.{stars_of, where_there}
-use Rattle.kt_check.specs.Tables.{Written, term_written, declaration_written, start_written, statement_written, block_written, constant_written, external_written, written_of}
-use Rattle.kt_check.specs.Statements.{Body, State, here, entered, declared, base_for, held, pointer_outside, new_name, initial, declarator_place, local, locals_from, locals, before, condition, effect_of, perhaps, returned, start, statement, entries}
-use Rattle.kt_check.specs.Functions.{defined_function, body_in}
+use Rattle.kt_names.specs.declared.ctype.CType.{CType}
+use Rattle.kt_names.specs.declared.fault.CheckFault.TheVariants.{BadType}
+use Rattle.kt_names.specs.Checked.{Checked, and_then, fault}
+use Rattle.kt_names.specs.Environment.{Environment}
+use Rattle.kt_names.specs.Types.{ctype}
+use Rattle.kt_names.specs.Operands.{convert}
+use Rattle.kt_names.specs.Terms.{typing, first_token}
+use Rattle.kt_names.specs.Uses.{stars_of, where_there}
+use Rattle.kt_names.specs.Tables.{Written, term_written, declaration_written, start_written, statement_written, block_written, constant_written, external_written, written_of}
+use Rattle.kt_names.specs.Statements.{Body, State, here, entered, declared, base_for, held, pointer_outside, new_name, initial, declarator_place, local, locals_from, locals, before, condition, effect_of, perhaps, returned, start, statement, entries}
+use Rattle.kt_names.specs.Functions.{defined_function, body_in}
 use Rattle.kt_check.specs.Files.{Frame, Sofar, outside, external, externals}
 use Rattle.kt_check.proofs.FieldCells.{not-ok, then-parts, both-parts, all-both}
 use Rattle.kt_check.proofs.Made.{function-made, body-function}

@@ -7,26 +7,26 @@ use Rattle.kt_grammar.specs.declared.tree.TypeName.{TypeName}
 use Rattle.kt_grammar.specs.Tree.{Term, Constant, Character, Text, Null as NullTerm, Eof, Named, Called, Parenthesised, SizeOf, RuleValue, OldSymbol, Transformed, Element, Member, Pointed, Stepped, Prefixed, Converted, Operated, Chosen, Assigned, Terms, Nothing, More}
 use Rattle.kt_tree.specs.Names.{is_point_name}
 use Rattle.kt_tree.specs.Tree.{More as MoreExpressions}
-use Rattle.kt_check.specs.declared.ctype.CType.{CType}
-use Rattle.kt_check.specs.declared.builtin.Builtin.{Builtin}
-use Rattle.kt_check.specs.declared.builtin.Builtin.TheVariants as builtin
-use Rattle.kt_check.specs.declared.fault.CheckFault.TheVariants.{Unknown, BadType, Incomplete}
-use Rattle.kt_check.specs.declared.fault.CheckFault.{CheckFault}
-use Rattle.kt_check.specs.Checked.{Checked, fault, and_then, both, found, holds}
-use Rattle.kt_check.specs.Types.{char, mutex}
-use Rattle.kt_check.specs.Environment.{Environment, Declared, local_named, is_complete}
-use Rattle.kt_check.specs.declared.format.Conversion.{Conversion}
-use Rattle.kt_check.specs.declared.format.Conversion.TheVariants.{Plain, Decimal, LongDecimal, Byte, Text as TextPiece}
-use Rattle.kt_check.specs.Formats.{format_of}
-use Rattle.kt_check.specs.Operands.{Operand, Value, scalar, integer, pointer, convert}
-use Rattle.kt_check.specs.Builtins.{builtin_named, takes, format_values, entry_of, outer_unhidden, no_entry, integer_argument, points_to}
-use Rattle.kt_check.specs.Tables.{Written, term_written, terms_written, first_written, literal}
-use Rattle.kt_check.specs.Terms.{first_token, is_allocation, cast, bytes_allocated, counted, allocated, named_type, struct_place, result_of, passed, called_function, callable, plain_builtin, argument, typing, typing_all, builtin_call}
+use Rattle.kt_names.specs.declared.ctype.CType.{CType}
+use Rattle.kt_names.specs.declared.builtin.Builtin.{Builtin}
+use Rattle.kt_names.specs.declared.builtin.Builtin.TheVariants as builtin
+use Rattle.kt_names.specs.declared.fault.CheckFault.TheVariants.{Unknown, BadType, Incomplete}
+use Rattle.kt_names.specs.declared.fault.CheckFault.{CheckFault}
+use Rattle.kt_names.specs.Checked.{Checked, fault, and_then, both, found, holds}
+use Rattle.kt_names.specs.Types.{char, mutex}
+use Rattle.kt_names.specs.Environment.{Environment, Declared, local_named, is_complete}
+use Rattle.kt_names.specs.declared.format.Conversion.{Conversion}
+use Rattle.kt_names.specs.declared.format.Conversion.TheVariants.{Plain, Decimal, LongDecimal, Byte, Text as TextPiece}
+use Rattle.kt_names.specs.Formats.{format_of}
+use Rattle.kt_names.specs.Operands.{Operand, Value, scalar, integer, pointer, convert}
+use Rattle.kt_names.specs.Builtins.{builtin_named, takes, format_values, entry_of, outer_unhidden, no_entry, integer_argument, points_to}
+use Rattle.kt_names.specs.Tables.{Written, term_written, terms_written, first_written, literal}
+use Rattle.kt_names.specs.Terms.{first_token, is_allocation, cast, bytes_allocated, counted, allocated, named_type, struct_place, result_of, passed, called_function, callable, plain_builtin, argument, typing, typing_all, builtin_call}
 use Rattle.kt_check.proofs.FieldCells.{not-ok, then-parts, both-parts, all-both}
-use Rattle.kt_check.specs.Rules.{element, member, pointed, operator, choice, assignment, changed, unary, step_operator, one}
+use Rattle.kt_names.specs.Rules.{element, member, pointed, operator, choice, assignment, changed, unary, step_operator, one}
 use Rattle.kt_check.proofs.PointWords.{IsPointWord}
-use Rattle.kt_check.proofs.SoundCalls.{call_written, written-of-call}
-use Rattle.kt_check.proofs.SoundTerms.{IsPlain, plain-same}
+use Rattle.kt_terms.proofs.SoundCalls.{call_written, written-of-call}
+use Rattle.kt_terms.proofs.SoundTerms.{IsPlain, plain-same}
 
 abbrev pub Words : List Written → Type 0
 Words ws = AllByRecursion IsPointWord ws

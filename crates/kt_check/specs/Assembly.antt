@@ -2,11 +2,11 @@
 use Rattle.std.specs.Prelude.{map}
 use Rattle.kt_tree.specs.Tree.{function_of}
 use Rattle.kt_tree.specs.Version.{Program}
-use Rattle.kt_check.specs.declared.tables.Named.{Named}
-use Rattle.kt_check.specs.declared.tables.Texts.{Texts}
+use Rattle.kt_names.specs.declared.tables.Named.{Named}
+use Rattle.kt_names.specs.declared.tables.Texts.{Texts}
 use Rattle.kt_check.specs.declared.assembly.Assembly.{Assembly}
 use Rattle.kt_check.specs.Built.{definition_seen}
-use Rattle.kt_check.specs.Views.{latest_first}
+use Rattle.kt_names.specs.Views.{latest_first}
 
 abbrev pub program_seen : Named → Texts → Assembly → Program
 program_seen named texts parts = record {

@@ -3,9 +3,9 @@ use Rattle.std.specs.Prelude.{ℕ, Bool, true, List, [], ◌∷◌, Ok, Option, 
 use Rattle.kt_grammar.specs.Tree.{Term}
 use Rattle.kt_syntax.specs.Tree.{Declaration, Start, Statement as Syntax}
 use Rattle.kt_tree.specs.Tree.{Expression, Statement, Evaluated, Conditional}
-use Rattle.kt_check.specs.Checked.{Checked, and_then}
-use Rattle.kt_check.specs.Statements.{Body, State, here, effect_of, returned, locals, statement}
-use Rattle.kt_check.specs.Scopes.{Heading, declared_in, head_in, for_of}
+use Rattle.kt_names.specs.Checked.{Checked, and_then}
+use Rattle.kt_names.specs.Statements.{Body, State, here, effect_of, returned, locals, statement}
+use Rattle.kt_names.specs.Scopes.{Heading, declared_in, head_in, for_of}
 
 -- a statement alone, and the scope behind it
 abbrev pub single : State → Statement × ℕ → Checked (List Statement × State)

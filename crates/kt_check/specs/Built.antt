@@ -6,7 +6,7 @@ use Rattle.kt_types.specs.declared.kinds.FieldDecl.{FieldDecl}
 use Rattle.kt_types.specs.Table.{Table, Definition, HasType}
 use Rattle.kt_types.specs.Layout.{NamesPlaces, IsFitting, CanDefine}
 use Rattle.kt_check.specs.declared.sofar.Defined.{Defined}
-use Rattle.kt_check.specs.Types.{scalars}
+use Rattle.kt_names.specs.Types.{scalars}
 
 -- a definition, as the code keeps it
 abbrev pub definition_seen : Defined → Definition

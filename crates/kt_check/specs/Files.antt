@@ -24,25 +24,25 @@ use Rattle.kt_types.specs.declared.kinds.View.{View}
 use Rattle.kt_types.specs.declared.kinds.View.TheVariants as view
 use Rattle.kt_types.specs.declared.kinds.FieldDecl.{FieldDecl}
 use Rattle.kt_types.specs.Table.{Definition}
-use Rattle.kt_check.specs.declared.ctype.CType.{CType}
+use Rattle.kt_names.specs.declared.ctype.CType.{CType}
 use Rattle.kt_tree.specs.declared.global.GlobalDecl.{GlobalDecl}
 use Rattle.kt_tree.specs.declared.global.Init.{Init}
 use Rattle.kt_tree.specs.declared.global.Init.TheVariants as init
 use Rattle.kt_tree.specs.Kinds.{fits_in}
 use Rattle.kt_tree.specs.Tree.{Function as TypedFunction, Statement, Compound}
 use Rattle.kt_tree.specs.Version.{Program}
-use Rattle.kt_check.specs.declared.fault.CheckFault.{CheckFault}
-use Rattle.kt_check.specs.declared.fault.CheckFault.TheVariants.{Twice, BadType, TooBig, NoMain}
-use Rattle.kt_check.specs.Checked.{Checked, fault, and_then, both, holds, first}
-use Rattle.kt_check.specs.Environment.{Environment, Outer, Global, FieldOf, Struct, struct_numbered, cells_of}
-use Rattle.kt_check.specs.Builtins.{builtin_named}
-use Rattle.kt_check.specs.Types.{int, same_ctype, is_scalar, ctype, place_in, place_of_type, number_of_struct}
-use Rattle.kt_check.specs.declared.ctype.Root.{Root}
-use Rattle.kt_check.specs.declared.ctype.Root.TheVariants as root
-use Rattle.kt_check.specs.Uses.{stars_of, result_stars}
-use Rattle.kt_check.specs.Statements.{Body, State, declarator_place, base_for, held, extent_outside, pointer_outside, new_name, declared, contains, entries}
-use Rattle.kt_check.specs.Functions.{same_result, result_fault, agrees, parameters, no_state, body_in, is_noted, defined_function}
-use Rattle.kt_check.specs.Tables.{struct_names, types_of, declared_type, result_type, parameter_types, outer_named, locals_of, written_of, literals_in, literal_places, literal_number, update_names, point_names, plain_view, view_of, extent_of}
+use Rattle.kt_names.specs.declared.fault.CheckFault.{CheckFault}
+use Rattle.kt_names.specs.declared.fault.CheckFault.TheVariants.{Twice, BadType, TooBig, NoMain}
+use Rattle.kt_names.specs.Checked.{Checked, fault, and_then, both, holds, first}
+use Rattle.kt_names.specs.Environment.{Environment, Outer, Global, FieldOf, Struct, struct_numbered, cells_of}
+use Rattle.kt_names.specs.Builtins.{builtin_named}
+use Rattle.kt_names.specs.Types.{int, same_ctype, is_scalar, ctype, place_in, place_of_type, number_of_struct}
+use Rattle.kt_names.specs.declared.ctype.Root.{Root}
+use Rattle.kt_names.specs.declared.ctype.Root.TheVariants as root
+use Rattle.kt_names.specs.Uses.{stars_of, result_stars}
+use Rattle.kt_names.specs.Statements.{Body, State, declarator_place, base_for, held, extent_outside, pointer_outside, new_name, declared, contains, entries}
+use Rattle.kt_names.specs.Functions.{same_result, result_fault, agrees, parameters, no_state, body_in, is_noted, defined_function}
+use Rattle.kt_names.specs.Tables.{struct_names, types_of, declared_type, result_type, parameter_types, outer_named, locals_of, written_of, literals_in, literal_places, literal_number, update_names, point_names, plain_view, view_of, extent_of}
 
 -- what a file's syntax gives once for all: its tables
 pub record Frame : Type 0 where

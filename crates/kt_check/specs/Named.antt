@@ -7,7 +7,7 @@ use Rattle.kt_syntax.specs.declared.tree.GlobalDeclarator.{GlobalDeclarator}
 use Rattle.kt_syntax.specs.declared.tree.Parameter.{Parameter}
 use Rattle.kt_syntax.specs.Tree.{Tree, Local, Declaration, Start, NoStart, Declares, Evaluates, Statement, Declared, Compound, Conditional, Alternative, Looped, Repeated, Counted, Statements, Nothing as NoStatements, More as Then, Definition, Routine, External, StructMentioned, StructDefined, GlobalsDeclared, FunctionDeclared}
 use Rattle.kt_tree.specs.Names.{is_identifier}
-use Rattle.kt_check.specs.Tables.{struct_names}
+use Rattle.kt_names.specs.Tables.{struct_names}
 
 abbrev pub is_named_field : Declarator → Bool
 is_named_field d = is_identifier d.name.word

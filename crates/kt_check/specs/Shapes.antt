@@ -12,17 +12,17 @@ use Rattle.kt_syntax.specs.declared.tree.Fields.{Fields}
 use Rattle.kt_syntax.specs.declared.tree.Pointer.{Pointer}
 use Rattle.kt_types.specs.declared.kinds.View.{View}
 use Rattle.kt_types.specs.declared.kinds.View.TheVariants as view
-use Rattle.kt_check.specs.declared.fault.CheckFault.TheVariants.{Twice, TooBig}
-use Rattle.kt_check.specs.declared.info.FieldInfo.{FieldInfo}
+use Rattle.kt_names.specs.declared.fault.CheckFault.TheVariants.{Twice, TooBig}
+use Rattle.kt_names.specs.declared.info.FieldInfo.{FieldInfo}
 use Rattle.kt_check.specs.declared.shape.OneField.{OneField as OneFieldCode}
 use Rattle.kt_check.specs.declared.shape.Shape.{Shape}
 use Rattle.kt_check.specs.declared.shape.Within.{Within as WithinCode}
-use Rattle.kt_check.specs.Checked.{Checked, both, holds}
-use Rattle.kt_check.specs.Environment.{Outer, FieldOf, struct_numbered}
-use Rattle.kt_check.specs.Types.{number_of_struct}
-use Rattle.kt_check.specs.Statements.{contains}
-use Rattle.kt_check.specs.Tables.{plain_view, extent_of}
-use Rattle.kt_check.specs.Views.{latest_first}
+use Rattle.kt_names.specs.Checked.{Checked, both, holds}
+use Rattle.kt_names.specs.Environment.{Outer, FieldOf, struct_numbered}
+use Rattle.kt_names.specs.Types.{number_of_struct}
+use Rattle.kt_names.specs.Statements.{contains}
+use Rattle.kt_names.specs.Tables.{plain_view, extent_of}
+use Rattle.kt_names.specs.Views.{latest_first}
 use Rattle.kt_check.specs.Files.{Frame, Sofar, OneField, Within, no_field, outside, is_array_count, count_field, named_view, field_cells, fields_in, fields_from, field_info, field_decl, pointer_inside}
 
 abbrev pub one_field : OneFieldCode → OneField

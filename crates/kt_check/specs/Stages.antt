@@ -9,26 +9,26 @@ use Rattle.kt_syntax.specs.declared.tree.GlobalDeclarator.{GlobalDeclarator}
 use Rattle.kt_syntax.specs.declared.tree.Parameter.{Parameter}
 use Rattle.kt_tree.specs.declared.global.GlobalDecl.{GlobalDecl}
 use Rattle.kt_tree.specs.declared.global.Init.{Init}
-use Rattle.kt_check.specs.declared.fault.CheckFault.TheVariants.{Twice, TooBig, Incomplete, BadType, NoMain}
+use Rattle.kt_names.specs.declared.fault.CheckFault.TheVariants.{Twice, TooBig, Incomplete, BadType, NoMain}
 use Rattle.kt_tree.specs.Tree.{Function, function_of}
 use Rattle.kt_tree.specs.declared.function.Fun.{Fun}
-use Rattle.kt_check.specs.declared.info.Scopes.{Scopes}
-use Rattle.kt_check.specs.Scopes.{state_of}
+use Rattle.kt_names.specs.declared.info.Scopes.{Scopes}
+use Rattle.kt_names.specs.Scopes.{state_of}
 use Rattle.kt_syntax.specs.Tree.{Routine, routine_of, external_of}
 use Rattle.kt_check.specs.declared.frame.Frame.{Frame as FrameCode}
 use Rattle.kt_check.specs.declared.sofar.Sofar.{Sofar as SofarCode}
 pub use Rattle.kt_check.specs.Built.{definition_seen}
 use Rattle.kt_check.specs.declared.sofar.Head.{Head}
-use Rattle.kt_check.specs.Functions.{stars_place, same_function, is_other_type, is_defined, agrees, parameters, no_state, body_in, is_noted, result_fault, defined_function}
-use Rattle.kt_check.specs.Checked.{Checked, and_then, both, holds, fault}
-use Rattle.kt_check.specs.Environment.{cells_of, is_complete}
-use Rattle.kt_check.specs.Types.{place_in, ctype, is_scalar}
-use Rattle.kt_check.specs.declared.ctype.CType.{CType}
-use Rattle.kt_check.specs.Uses.{result_stars}
-use Rattle.kt_check.specs.Statements.{State, declarator_place, pointer_outside, struct_place}
-use Rattle.kt_check.specs.Tables.{declared_type, view_of}
+use Rattle.kt_names.specs.Functions.{stars_place, same_function, is_other_type, is_defined, agrees, parameters, no_state, body_in, is_noted, result_fault, defined_function}
+use Rattle.kt_names.specs.Checked.{Checked, and_then, both, holds, fault}
+use Rattle.kt_names.specs.Environment.{cells_of, is_complete}
+use Rattle.kt_names.specs.Types.{place_in, ctype, is_scalar}
+use Rattle.kt_names.specs.declared.ctype.CType.{CType}
+use Rattle.kt_names.specs.Uses.{result_stars}
+use Rattle.kt_names.specs.Statements.{State, declarator_place, pointer_outside, struct_place}
+use Rattle.kt_names.specs.Tables.{declared_type, view_of}
 use Rattle.kt_check.specs.Files.{Frame, Sofar, externals, nothing_yet, has_main, outside, is_array_count, count_of, outer_name, has_global, has_routine, initial_of}
-use Rattle.kt_check.specs.Views.{latest_first, struct_of, outer_of, literal_at}
+use Rattle.kt_names.specs.Views.{latest_first, struct_of, outer_of, literal_at}
 
 abbrev pub frame_seen : FrameCode → Frame
 frame_seen f = record {

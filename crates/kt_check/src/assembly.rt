@@ -9,12 +9,12 @@ ghost use Rattle.kt_tree.specs.Version.{IsProgram, program};
 ghost use Rattle.kt_check.specs.Assembly.{program_seen};
 ghost use Rattle.kt_check.specs.Files.{typed_file};
 
-use crate::fault::CheckFault;
 use crate::named::names;
-use crate::points::points;
 use crate::sofar::{Defined, Sofar};
 use crate::table::table;
-use crate::tables::{Named, Texts};
+use kt_names::fault::CheckFault;
+use kt_names::points::points;
+use kt_names::tables::{Named, Texts};
 use kt_syntax::File;
 use kt_tree::{Fun, Functions, GlobalDecl, Globals, Literals, Version};
 use kt_types::{Points, Text, TypeTable};

@@ -3,21 +3,21 @@
 ghost use Rattle.std.specs.Prelude.{◌≡◌, ◌⊎◌, ◌==◌, ◌<◌, ◌^◌, ℕ, List, Ok, Err, IfOk, IfErr, map, length};
 ghost use Rattle.std.specs.Map.{lookup};
 ghost use Rattle.kt_syntax.specs.Tree.{external_of, tree_of};
-ghost use Rattle.kt_check.specs.declared.fault.CheckFault.TheVariants.{NoMemory};
-ghost use Rattle.kt_check.specs.Judges.{Judges};
-ghost use Rattle.kt_check.specs.Outers.{outer_in};
-ghost use Rattle.kt_check.specs.Views.{literal_at};
-ghost use Rattle.kt_check.specs.Tables.{struct_names, types_of, outer_named, written_of, literals_in, literal_places, literal_number, update_names, point_names};
+ghost use Rattle.kt_names.specs.declared.fault.CheckFault.TheVariants.{NoMemory};
+ghost use Rattle.kt_names.specs.Judges.{Judges};
+ghost use Rattle.kt_names.specs.Outers.{outer_in};
+ghost use Rattle.kt_names.specs.Views.{literal_at};
+ghost use Rattle.kt_names.specs.Tables.{struct_names, types_of, outer_named, written_of, literals_in, literal_places, literal_number, update_names, point_names};
 ghost use Rattle.kt_check.specs.Files.{frame_of, typed_file, version_of};
 ghost use Rattle.kt_check.specs.Assembly.{program_seen};
 ghost use Rattle.kt_check.specs.Stages.{sofar_of, typed_from};
 
 use crate::assembly::{Assembly, left_of, version};
-use crate::fault::CheckFault;
 use crate::file::typed;
 use crate::frame::Frame;
 use crate::sofar::Sofar;
-use crate::tables::{Named, Texts};
+use kt_names::fault::CheckFault;
+use kt_names::tables::{Named, Texts};
 use kt_syntax::File;
 use kt_tree::Version;
 use std::alloc::Global;

@@ -5,20 +5,20 @@ ghost use Rattle.std.specs.List.{list_any};
 ghost use Rattle.std.specs.Option.{option_map};
 ghost use Rattle.kt_grammar.specs.declared.tree.Base.TheVariants as base;
 ghost use Rattle.kt_syntax.specs.Tree.{local_of};
-ghost use Rattle.kt_check.specs.declared.fault.CheckFault.TheVariants.{NoMemory, Incomplete};
-ghost use Rattle.kt_check.specs.Checked.{holds};
-ghost use Rattle.kt_check.specs.Judges.{Judges};
-ghost use Rattle.kt_check.specs.Types.{ctype, root_of};
-ghost use Rattle.kt_check.specs.Environment.{is_complete};
-ghost use Rattle.kt_check.specs.Uses.{stars_of};
-ghost use Rattle.kt_check.specs.Statements.{declarator_place, struct_place, base_for, held, is_count, extent_outside, pointer_outside};
-ghost use Rattle.kt_check.specs.Views.{environment_of, outer_of};
+ghost use Rattle.kt_names.specs.declared.fault.CheckFault.TheVariants.{NoMemory, Incomplete};
+ghost use Rattle.kt_names.specs.Checked.{holds};
+ghost use Rattle.kt_names.specs.Judges.{Judges};
+ghost use Rattle.kt_names.specs.Types.{ctype, root_of};
+ghost use Rattle.kt_names.specs.Environment.{is_complete};
+ghost use Rattle.kt_names.specs.Uses.{stars_of};
+ghost use Rattle.kt_names.specs.Statements.{declarator_place, struct_place, base_for, held, is_count, extent_outside, pointer_outside};
+ghost use Rattle.kt_names.specs.Views.{environment_of, outer_of};
 
-use crate::ctype::{CType, Root};
-use crate::environment::Environment;
-use crate::fault::CheckFault;
-use crate::info::Outer;
 use kt_grammar::{Base, Name};
+use kt_names::ctype::{CType, Root};
+use kt_names::environment::Environment;
+use kt_names::fault::CheckFault;
+use kt_names::info::Outer;
 use kt_syntax::{Extent, LocalDeclarator, Pointer};
 
 /// How many stars a declarator has.

@@ -2,16 +2,16 @@
 
 ghost use Rattle.std.specs.Prelude.{◌≡◌, Ok};
 ghost use Rattle.std.specs.Option.{option_map};
-ghost use Rattle.kt_check.specs.Checked.{holds};
-ghost use Rattle.kt_check.specs.Judges.{Judges};
-ghost use Rattle.kt_check.specs.Statements.{is_count, extent_outside, pointer_outside};
-ghost use Rattle.kt_check.specs.Tables.{outer_view, plain_view, view_of, global_view};
-ghost use Rattle.kt_check.specs.Views.{environment_of, outer_of};
+ghost use Rattle.kt_names.specs.Checked.{holds};
+ghost use Rattle.kt_names.specs.Judges.{Judges};
+ghost use Rattle.kt_names.specs.Statements.{is_count, extent_outside, pointer_outside};
+ghost use Rattle.kt_names.specs.Tables.{outer_view, plain_view, view_of, global_view};
+ghost use Rattle.kt_names.specs.Views.{environment_of, outer_of};
 
-use crate::environment::Environment;
-use crate::fault::CheckFault;
-use crate::info::Outer;
 use kt_grammar::Base;
+use kt_names::environment::Environment;
+use kt_names::fault::CheckFault;
+use kt_names::info::Outer;
 use kt_syntax::{Extent, Pointer};
 use kt_types::View;
 

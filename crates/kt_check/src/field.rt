@@ -1,21 +1,21 @@
 //! The fields of a struct, and how much its pointers point to.
 
 ghost use Rattle.std.specs.Prelude.{◌≡◌, Ok, true};
-ghost use Rattle.kt_check.specs.Judges.{Judges};
-ghost use Rattle.kt_check.specs.Views.{environment_of};
+ghost use Rattle.kt_names.specs.Judges.{Judges};
+ghost use Rattle.kt_names.specs.Views.{environment_of};
 ghost use Rattle.kt_check.specs.Files.{is_integer_base, is_array_count, is_count_field, count_field, extent_inside, pointer_inside, named_view, field_place, field_info, field_decl};
 ghost use Rattle.kt_check.specs.Shapes.{one_field, shape_fields, Counts, extent_view, view_inside};
 ghost use Rattle.kt_check.specs.Stages.{frame_seen, right};
 
 use crate::counted::elements;
-use crate::environment::Environment;
 use crate::extent::{extent_outside, global_view, plain_view};
-use crate::fault::CheckFault;
 use crate::frame::Frame;
-use crate::info::FieldInfo;
 use crate::outside::stars_of;
 use crate::shape::{OneField, Shape};
 use kt_grammar::{Base, Name};
+use kt_names::environment::Environment;
+use kt_names::fault::CheckFault;
+use kt_names::info::FieldInfo;
 use kt_syntax::{Extent, Pointer};
 use kt_types::{FieldDecl, Text, Ty, View};
 

@@ -9,9 +9,9 @@ ghost use Rattle.kt_check.specs.Files.{OneField as FieldSeen, is_count_field, co
 ghost use Rattle.kt_check.specs.Shapes.{one_field};
 
 use crate::field::is_count_field;
-use crate::put::put;
 use crate::shape::OneField;
 use indexmap::IndexMap;
+use kt_names::put::put;
 use kt_syntax::Fields;
 use std::alloc::{AllocError, Global};
 

@@ -1,20 +1,20 @@
 //! The external declarations of a file, each in its turn (ISO/IEC 9899:2011, 6.9).
 
 ghost use Rattle.std.specs.Prelude.{◌≡◌, Ok, IfOk, map, if◌then◌else◌};
-ghost use Rattle.kt_check.specs.declared.fault.CheckFault.TheVariants.{NoMain};
-ghost use Rattle.kt_check.specs.Checked.{fault};
+ghost use Rattle.kt_names.specs.declared.fault.CheckFault.TheVariants.{NoMain};
+ghost use Rattle.kt_names.specs.Checked.{fault};
 ghost use Rattle.kt_syntax.specs.Tree.{external_of, routine_of};
-ghost use Rattle.kt_check.specs.Judges.{Judges};
+ghost use Rattle.kt_names.specs.Judges.{Judges};
 ghost use Rattle.kt_check.specs.Files.{external, externals, is_main, has_main};
 ghost use Rattle.kt_check.specs.Stages.{frame_seen, sofar_of, typed_from, Keeps};
 
-use crate::ctype::CType;
-use crate::fault::CheckFault;
 use crate::frame::Frame;
 use crate::global::globals;
 use crate::routine::{function, result_type, same_result};
 use crate::sofar::Sofar;
 use crate::structure::structure;
+use kt_names::ctype::CType;
+use kt_names::fault::CheckFault;
 use kt_syntax::{Function, Item};
 
 /// An external declaration.

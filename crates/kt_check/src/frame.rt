@@ -2,9 +2,9 @@
 
 ghost use Rattle.std.specs.Prelude.{◌<◌, ◌^◌, length};
 
-use crate::info::Outer;
-use crate::types::Types;
 use indexmap::{IndexMap, IndexSet};
+use kt_names::info::Outer;
+use kt_names::types::Types;
 use kt_syntax::Item;
 use std::alloc::Global;
 

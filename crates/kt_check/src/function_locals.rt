@@ -2,21 +2,21 @@
 
 ghost use Rattle.std.specs.Prelude.{◌≡◌, List, [], ◌∷◌, ◌++◌, map, OnOk, IfOk, IfErr};
 ghost use Rattle.kt_syntax.specs.Tree.{declaration_of, start_of, statement_of, statements_of, routine_of};
-ghost use Rattle.kt_check.specs.declared.fault.CheckFault.TheVariants.{NoMemory};
-ghost use Rattle.kt_check.specs.Uses.{where_there};
-ghost use Rattle.kt_check.specs.Tables.{declared_type, locals_in, start_locals, statement_locals, block_locals, parameter_local, locals_of};
-ghost use Rattle.kt_check.specs.Views.{environment_of};
-ghost use Rattle.kt_check.specs.Scopes.{declared_as};
-ghost use Rattle.kt_check.specs.Firsts.{AreFirst};
+ghost use Rattle.kt_names.specs.declared.fault.CheckFault.TheVariants.{NoMemory};
+ghost use Rattle.kt_names.specs.Uses.{where_there};
+ghost use Rattle.kt_names.specs.Tables.{declared_type, locals_in, start_locals, statement_locals, block_locals, parameter_local, locals_of};
+ghost use Rattle.kt_names.specs.Views.{environment_of};
+ghost use Rattle.kt_names.specs.Scopes.{declared_as};
+ghost use Rattle.kt_names.specs.Firsts.{AreFirst};
 
-use crate::ctype::CType;
 use crate::declarator::{ctype, stars_of};
-use crate::environment::Environment;
-use crate::fault::CheckFault;
-use crate::info::LocalInfo;
-use crate::put::put;
 use indexmap::IndexMap;
 use kt_grammar::{Base, Name};
+use kt_names::ctype::CType;
+use kt_names::environment::Environment;
+use kt_names::fault::CheckFault;
+use kt_names::info::LocalInfo;
+use kt_names::put::put;
 use kt_syntax::{ForStart, Function, Locals, Parameter, Pointer, Stmt};
 use sqlite_items::Items;
 use std::alloc::Global;

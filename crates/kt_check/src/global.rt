@@ -2,25 +2,25 @@
 
 ghost use Rattle.std.specs.Prelude.{◌≡◌, ◌==◌, Ok, true, IfOk, map};
 ghost use Rattle.std.specs.List.{list_any};
-ghost use Rattle.kt_check.specs.Uses.{stars_of};
-ghost use Rattle.kt_check.specs.Checked.{and_then};
-ghost use Rattle.kt_check.specs.Judges.{Judges};
-ghost use Rattle.kt_check.specs.Statements.{declarator_place, base_for, pointer_outside};
+ghost use Rattle.kt_names.specs.Uses.{stars_of};
+ghost use Rattle.kt_names.specs.Checked.{and_then};
+ghost use Rattle.kt_names.specs.Judges.{Judges};
+ghost use Rattle.kt_names.specs.Statements.{declarator_place, base_for, pointer_outside};
 ghost use Rattle.kt_check.specs.Files.{outside, outer_name, is_array_count, global, with_global, globals_from, globals};
-ghost use Rattle.kt_check.specs.Views.{environment_of};
+ghost use Rattle.kt_names.specs.Views.{environment_of};
 ghost use Rattle.kt_check.specs.Stages.{frame_seen, sofar_of, Keeps, right, behind_right, init_parts, once_parts, named_parts, global_parts, once_seen, named_seen, global_seen, global_decl};
 
-use crate::builtin::builtin_named;
 use crate::counted::{elements, global_fits};
 use crate::extent::{holds, pointer_outside, view_of};
-use crate::fault::CheckFault;
 use crate::frame::Frame;
 use crate::initial::initial_of;
-use crate::judged::both;
 use crate::outside::stars_of;
 use crate::routine::base_for;
 use crate::sofar::Sofar;
 use kt_grammar::{Base, Name};
+use kt_names::builtin::builtin_named;
+use kt_names::fault::CheckFault;
+use kt_names::judged::both;
 use kt_syntax::{GlobalDeclarator, Pointer};
 use kt_tree::{GlobalDecl, Init};
 use kt_types::Text;
@@ -179,7 +179,7 @@ fn with_global<'f>(
 }
 
 /// A declarator of a global.
-#[tactic(auto, using(crate::proofs::Parts::parts))]
+#[tactic(auto, using(kt_names::proofs::Parts::parts))]
 fn declared<'f>(
     frame: &Frame<'_>,
     sofar: Sofar<'f>,
@@ -228,7 +228,7 @@ fn has_plain(declarators: &[GlobalDeclarator]) -> bool
 }
 
 /// Globals of one base.
-#[tactic(auto, using(crate::proofs::Parts::parts))]
+#[tactic(auto, using(kt_names::proofs::Parts::parts))]
 pub(crate) fn globals<'f>(
     frame: &Frame<'_>,
     sofar: Sofar<'f>,

@@ -2,14 +2,14 @@
 
 ghost use Rattle.std.specs.Prelude.{◌≡◌, ◌≤◌, ◌+◌, ◌^◌, ℕ, pos, nat_le, Some, None, if◌then◌else◌};
 ghost use Rattle.kt_tree.specs.declared.global.Init.TheVariants as init;
-ghost use Rattle.kt_check.specs.Judges.{Judges};
+ghost use Rattle.kt_names.specs.Judges.{Judges};
 ghost use Rattle.kt_check.specs.Files.{negative, number_init, constant_number, is_zero, mutex_init, root_init, pointer_init, typed_init, initial_of};
 ghost use Rattle.kt_check.specs.Stages.{frame_seen};
 
-use crate::ctype::{CType, Root};
-use crate::fault::CheckFault;
 use crate::frame::Frame;
 use kt_lex::Number;
+use kt_names::ctype::{CType, Root};
+use kt_names::fault::CheckFault;
 use kt_syntax::Constant;
 use kt_tree::Init;
 

@@ -5,31 +5,31 @@ ghost use Rattle.std.specs.Option.{option_map};
 ghost use Rattle.kt_grammar.specs.Tree.{term_of};
 ghost use Rattle.kt_syntax.specs.Tree.{local_of, declaration_of};
 ghost use Rattle.kt_tree.specs.Tree.{statement_of, expression_of, Evaluated, LocalSet};
-ghost use Rattle.kt_check.specs.Checked.{and_then, both};
-ghost use Rattle.kt_check.specs.Judges.{Judges};
-ghost use Rattle.kt_check.specs.Types.{ctype};
-ghost use Rattle.kt_check.specs.Uses.{stars_of};
-ghost use Rattle.kt_check.specs.Operands.{convert};
-ghost use Rattle.kt_check.specs.Terms.{typing, first_token};
-ghost use Rattle.kt_check.specs.Statements.{here, declared, declarator_place, held, pointer_outside, new_name, initial, local, locals_from, locals, base_for};
-ghost use Rattle.kt_check.specs.Views.{environment_of, operand_of};
-ghost use Rattle.kt_check.specs.Scopes.{state_of, body_of, part_of, Grown};
+ghost use Rattle.kt_names.specs.Checked.{and_then, both};
+ghost use Rattle.kt_names.specs.Judges.{Judges};
+ghost use Rattle.kt_names.specs.Types.{ctype};
+ghost use Rattle.kt_names.specs.Uses.{stars_of};
+ghost use Rattle.kt_names.specs.Operands.{convert};
+ghost use Rattle.kt_names.specs.Terms.{typing, first_token};
+ghost use Rattle.kt_names.specs.Statements.{here, declared, declarator_place, held, pointer_outside, new_name, initial, local, locals_from, locals, base_for};
+ghost use Rattle.kt_names.specs.Views.{environment_of, operand_of};
+ghost use Rattle.kt_names.specs.Scopes.{state_of, body_of, part_of, Grown};
 
-use crate::body::Body;
-use crate::builtin::builtin_named;
-use crate::ctype::CType;
 use crate::declarator::{
     base_for, ctype, declarator_place, held, is_one_plain, pointer_outside, stars_of,
 };
-use crate::environment::Environment;
-use crate::fault::CheckFault;
-use crate::info::Scopes;
-use crate::judged::both;
-use crate::node;
-use crate::operand::Operand;
-use crate::term::{first_token, typing};
 use kt_grammar::{Base, Name};
+use kt_names::body::Body;
+use kt_names::builtin::builtin_named;
+use kt_names::ctype::CType;
+use kt_names::environment::Environment;
+use kt_names::fault::CheckFault;
+use kt_names::info::Scopes;
+use kt_names::judged::both;
+use kt_names::node;
+use kt_names::operand::Operand;
 use kt_syntax::{LocalDeclarator, Locals};
+use kt_terms::term::{first_token, typing};
 use kt_tree::{Expr, Stmt};
 use sqlite_items::Items;
 use std::alloc::Global;
@@ -61,7 +61,7 @@ fn local_taken(alloc: Global, x: u32, value: Expr) -> Result<Stmt, CheckFault>
 }
 
 /// A local that takes an operand as its initial value.
-#[tactic(auto, using(crate::proofs::Parts::parts))]
+#[tactic(auto, using(kt_names::proofs::Parts::parts))]
 fn initialised_by(
     env: &Environment<'_>,
     local: (u32, CType),
@@ -78,7 +78,7 @@ fn initialised_by(
 }
 
 /// A local that takes the value of an expression.
-#[tactic(auto, using(crate::proofs::Parts::parts))]
+#[tactic(auto, using(kt_names::proofs::Parts::parts))]
 fn initialised(
     env: &Environment<'_>,
     local: (u32, CType),

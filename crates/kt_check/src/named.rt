@@ -79,7 +79,7 @@ fn start(start: &ForStart)
 
 /// The names of the locals of a statement, and of all in it, are identifiers.
 #[cycle(stmts)]
-#[tactic(auto, using(crate::proofs::Trees::statements))]
+#[tactic(auto, using(kt_names::proofs::Trees::statements))]
 fn statement(stmt: &Stmt)
     ensures { is_named_statement (statement_of stmt.now) ≡ true }
 {

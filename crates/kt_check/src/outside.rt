@@ -1,19 +1,19 @@
 //! What stands around the declarations of a file.
 
 ghost use Rattle.std.specs.Prelude.{◌≡◌};
-ghost use Rattle.kt_check.specs.Types.{ctype, root_of, number_of_struct};
-ghost use Rattle.kt_check.specs.Environment.{cells_of, is_complete};
-ghost use Rattle.kt_check.specs.Uses.{stars_of};
-ghost use Rattle.kt_check.specs.Tables.{declared_type};
+ghost use Rattle.kt_names.specs.Types.{ctype, root_of, number_of_struct};
+ghost use Rattle.kt_names.specs.Environment.{cells_of, is_complete};
+ghost use Rattle.kt_names.specs.Uses.{stars_of};
+ghost use Rattle.kt_names.specs.Tables.{declared_type};
 ghost use Rattle.kt_check.specs.Files.{outside};
-ghost use Rattle.kt_check.specs.Views.{environment_of};
+ghost use Rattle.kt_names.specs.Views.{environment_of};
 ghost use Rattle.kt_check.specs.Stages.{frame_seen, sofar_of};
 
-use crate::ctype::{CType, Root};
-use crate::environment::Environment;
 use crate::frame::Frame;
 use crate::sofar::Sofar;
 use kt_grammar::Base;
+use kt_names::ctype::{CType, Root};
+use kt_names::environment::Environment;
 use kt_syntax::Pointer;
 
 /// How many stars a declarator has.

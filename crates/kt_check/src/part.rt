@@ -4,21 +4,21 @@ ghost use Rattle.std.specs.Prelude.{◌≡◌, Ok};
 ghost use Rattle.std.specs.Option.{option_map};
 ghost use Rattle.kt_grammar.specs.Tree.{term_of};
 ghost use Rattle.kt_tree.specs.Tree.{expression_of, statement_of, Returned};
-ghost use Rattle.kt_check.specs.Checked.{and_then};
-ghost use Rattle.kt_check.specs.Judges.{Judges};
-ghost use Rattle.kt_check.specs.Terms.{typing, first_token};
-ghost use Rattle.kt_check.specs.Statements.{here, effect, effect_of, condition, perhaps, returned};
-ghost use Rattle.kt_check.specs.Views.{environment_of, operand_of, value_of};
-ghost use Rattle.kt_check.specs.Scopes.{state_of, body_of, scalar_of, returned_of};
+ghost use Rattle.kt_names.specs.Checked.{and_then};
+ghost use Rattle.kt_names.specs.Judges.{Judges};
+ghost use Rattle.kt_names.specs.Terms.{typing, first_token};
+ghost use Rattle.kt_names.specs.Statements.{here, effect, effect_of, condition, perhaps, returned};
+ghost use Rattle.kt_names.specs.Views.{environment_of, operand_of, value_of};
+ghost use Rattle.kt_names.specs.Scopes.{state_of, body_of, scalar_of, returned_of};
 
-use crate::body::Body;
-use crate::ctype::CType;
-use crate::environment::Environment;
-use crate::fault::CheckFault;
-use crate::info::Scopes;
-use crate::operand::Operand;
-use crate::term::{first_token, typing};
 use kt_grammar::Expr;
+use kt_names::body::Body;
+use kt_names::ctype::CType;
+use kt_names::environment::Environment;
+use kt_names::fault::CheckFault;
+use kt_names::info::Scopes;
+use kt_names::operand::Operand;
+use kt_terms::term::{first_token, typing};
 use kt_tree::Stmt;
 
 /// An integer or a pointer, as an expression.

@@ -6,30 +6,30 @@ ghost use Rattle.kt_tree.specs.Tree.{function_of};
 ghost use Rattle.std.specs.Option.{is_some};
 ghost use Rattle.std.specs.Map.{lookup};
 ghost use Rattle.std.specs.Str.{bytes_eq};
-ghost use Rattle.kt_check.specs.Scopes.{state_of};
-ghost use Rattle.kt_check.specs.Checked.{holds};
-ghost use Rattle.kt_check.specs.Judges.{Judges};
-ghost use Rattle.kt_check.specs.Environment.{is_complete};
-ghost use Rattle.kt_check.specs.Types.{ctype, is_scalar};
-ghost use Rattle.kt_check.specs.Uses.{result_stars};
-ghost use Rattle.kt_check.specs.Statements.{struct_place};
-ghost use Rattle.kt_check.specs.Tables.{result_type};
-ghost use Rattle.kt_check.specs.Functions.{stars_place, result_fault, same_result, same_types, same_function, agrees, defined_function};
+ghost use Rattle.kt_names.specs.Scopes.{state_of};
+ghost use Rattle.kt_names.specs.Checked.{holds};
+ghost use Rattle.kt_names.specs.Judges.{Judges};
+ghost use Rattle.kt_names.specs.Environment.{is_complete};
+ghost use Rattle.kt_names.specs.Types.{ctype, is_scalar};
+ghost use Rattle.kt_names.specs.Uses.{result_stars};
+ghost use Rattle.kt_names.specs.Statements.{struct_place};
+ghost use Rattle.kt_names.specs.Tables.{result_type};
+ghost use Rattle.kt_names.specs.Functions.{stars_place, result_fault, same_result, same_types, same_function, agrees, defined_function};
 ghost use Rattle.kt_check.specs.Files.{outside, function};
-ghost use Rattle.kt_check.specs.declared.fault.CheckFault.TheVariants.{Incomplete, BadType, NoMemory};
+ghost use Rattle.kt_names.specs.declared.fault.CheckFault.TheVariants.{Incomplete, BadType, NoMemory};
 ghost use Rattle.kt_check.specs.Stages.{frame_seen, sofar_of, Keeps, right, behind_right, based_result, types_in, first_routine, is_head_defined, agreed_parts, new_parts, outer_parts, function_parts, new_seen, outer_seen, function_seen, functions_seen, function_body_of, with_routine, with_bodies};
 
-use crate::ctype::CType;
 use crate::extent::holds;
-use crate::fault::CheckFault;
 use crate::frame::Frame;
 use crate::function::{function_body, parameters};
 use crate::global::outer_name;
-use crate::info::Scopes;
-use crate::judged::both;
 use crate::sofar::{Head, Sofar};
 use indexmap::IndexMap;
 use kt_grammar::{Base, Name};
+use kt_names::ctype::CType;
+use kt_names::fault::CheckFault;
+use kt_names::info::Scopes;
+use kt_names::judged::both;
 use kt_syntax::{Function, Parameter, Stars};
 use kt_tree::Fun;
 use std::alloc::Global;
@@ -91,7 +91,7 @@ fn held_result(frame: &Frame<'_>, base: &Base, f: &Function) -> Result<(), Check
 }
 
 /// A result of this base.
-#[tactic(auto, using(crate::proofs::Parts::parts))]
+#[tactic(auto, using(kt_names::proofs::Parts::parts))]
 fn based_result(
     frame: &Frame<'_>,
     sofar: &Sofar<'_>,

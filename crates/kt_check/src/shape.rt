@@ -1,8 +1,8 @@
 //! A struct that is being defined.
 
-use crate::info::FieldInfo;
 use indexmap::IndexMap;
 use kt_grammar::Base;
+use kt_names::info::FieldInfo;
 use kt_syntax::Declarator;
 use kt_types::FieldDecl;
 

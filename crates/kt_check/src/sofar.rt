@@ -4,8 +4,8 @@ ghost use Rattle.std.specs.Prelude.{◌≡◌, ℕ, List, ◌||◌};
 ghost use Rattle.kt_check.specs.Files.{nothing_yet, has_global, has_routine};
 ghost use Rattle.kt_check.specs.Stages.{sofar_of, head_named, Keeps};
 
-use crate::info::StructInfo;
 use indexmap::{IndexMap, IndexSet};
+use kt_names::info::StructInfo;
 use kt_syntax::Function;
 use kt_tree::{Fun, GlobalDecl};
 use kt_types::FieldDecl;

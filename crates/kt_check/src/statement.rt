@@ -5,27 +5,27 @@ ghost use Rattle.std.specs.Option.{option_map};
 ghost use Rattle.kt_grammar.specs.Tree.{term_of};
 ghost use Rattle.kt_syntax.specs.Tree.{Evaluates, Compound, Conditional, Alternative, Looped, Repeated, Counted, start_of, declaration_of, statements_of, statement_of};
 ghost use Rattle.kt_tree.specs.Tree as tree;
-ghost use Rattle.kt_check.specs.Judges.{Judges};
-ghost use Rattle.kt_check.specs.declared.fault.CheckFault.TheVariants.{BadType};
-ghost use Rattle.kt_check.specs.Checked.{and_then, fault};
-ghost use Rattle.kt_check.specs.Statements.{here, before, start, effect_of, condition, perhaps, statement, entries};
-ghost use Rattle.kt_check.specs.Scopes.{state_of, body_of, declared_in, alone, tested_in, heading, heading_tested, head_in, head_of, for_of, pair_of, Grown, Kept};
+ghost use Rattle.kt_names.specs.Judges.{Judges};
+ghost use Rattle.kt_names.specs.declared.fault.CheckFault.TheVariants.{BadType};
+ghost use Rattle.kt_names.specs.Checked.{and_then, fault};
+ghost use Rattle.kt_names.specs.Statements.{here, before, start, effect_of, condition, perhaps, statement, entries};
+ghost use Rattle.kt_names.specs.Scopes.{state_of, body_of, declared_in, alone, tested_in, heading, heading_tested, head_in, head_of, for_of, pair_of, Grown, Kept};
 ghost use Rattle.kt_check.specs.Blocks.{single_in, entry_in, for_in, evaluated_in, returned_in, with_test, with_other, with_body};
 
-use crate::body::Body;
-use crate::fault::CheckFault;
-use crate::head::Head;
-use crate::info::Scopes;
 use crate::local::locals;
 use crate::part::{condition, effect_of, returned, step, test};
 use kt_grammar::Expr;
+use kt_names::body::Body;
+use kt_names::fault::CheckFault;
+use kt_names::head::Head;
+use kt_names::info::Scopes;
 use kt_syntax::{ForStart, Locals};
 use kt_tree::Stmt;
 use sqlite_items::Items;
 use std::alloc::Global;
 
 /// The locals that an entry of a block declares, if it is a declaration.
-#[tactic(auto, using(crate::proofs::Trees::statements))]
+#[tactic(auto, using(kt_names::proofs::Trees::statements))]
 fn declaration(s: &kt_syntax::Stmt) -> Option<&Locals>
     ensures { option_map (λ d. declaration_of d.now) result ≡ declared_in (statement_of s.now) }
 {

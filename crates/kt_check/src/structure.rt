@@ -2,22 +2,22 @@
 
 ghost use Rattle.std.specs.Prelude.{◌≡◌, Ok, IfOk};
 ghost use Rattle.std.specs.Option.{is_some};
-ghost use Rattle.kt_check.specs.Judges.{Judges};
-ghost use Rattle.kt_check.specs.Environment.{struct_numbered};
+ghost use Rattle.kt_names.specs.Judges.{Judges};
+ghost use Rattle.kt_names.specs.Environment.{struct_numbered};
 ghost use Rattle.kt_check.specs.Files.{struct, no_field, fields_in, fields_from, with_struct};
 ghost use Rattle.kt_check.specs.Shapes.{within_of, Holds, struct_parts};
 ghost use Rattle.kt_check.specs.Stages.{frame_seen, sofar_of, Keeps, right, behind_right};
 
 use crate::extent::holds;
-use crate::fault::CheckFault;
 use crate::fields::{counts_of, fields_in};
 use crate::frame::Frame;
-use crate::info::StructInfo;
-use crate::judged::both;
 use crate::shape::{Shape, Within};
 use crate::sofar::{Defined, Sofar};
 use crate::within::fields_from;
 use kt_grammar::Name;
+use kt_names::fault::CheckFault;
+use kt_names::info::StructInfo;
+use kt_names::judged::both;
 use kt_syntax::Fields;
 
 /// Whether the struct of this number is defined.

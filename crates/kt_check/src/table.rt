@@ -2,12 +2,12 @@
 
 ghost use Rattle.std.specs.Prelude.{◌≡◌, ◌<◌, ◌≤◌, ◌^◌, ◌∷◌, [], map, take, length, OnOk, IfOk};
 ghost use Rattle.kt_tree.specs.Version.{AreDistinct};
-ghost use Rattle.kt_check.specs.Types.{scalars};
+ghost use Rattle.kt_names.specs.Types.{scalars};
 ghost use Rattle.kt_check.specs.Built.{definition_seen, with_structs, stage, larger, reach, built, CanInternAll, CanAdd, CanBuild};
 
 use crate::sofar::Defined;
-use crate::types::Types;
 use indexmap::IndexSet;
+use kt_names::types::Types;
 use kt_types::{FieldDecl, Ty, TypeFault, TypeTable};
 use std::alloc::{AllocError, Global};
 

@@ -4,26 +4,26 @@ ghost use Rattle.std.specs.Prelude.{◌≡◌, ◌==◌, Ok, IfOk, map, [], ◌�
 ghost use Rattle.std.specs.List.{list_any};
 ghost use Rattle.std.specs.Map.{lookup};
 ghost use Rattle.std.specs.Str.{bytes_eq};
-ghost use Rattle.kt_check.specs.Judges.{Judges};
-ghost use Rattle.kt_check.specs.Uses.{stars_of};
-ghost use Rattle.kt_check.specs.Statements.{contains};
+ghost use Rattle.kt_names.specs.Judges.{Judges};
+ghost use Rattle.kt_names.specs.Uses.{stars_of};
+ghost use Rattle.kt_names.specs.Statements.{contains};
 ghost use Rattle.kt_check.specs.Files.{field, fields_with, fields_of_base, fields_from, fields_in, no_field};
 ghost use Rattle.kt_check.specs.Shapes.{one_field, shape_fields, Counts, within_of, Grows, size_parts, field_parts, with_field};
 ghost use Rattle.kt_check.specs.Stages.{frame_seen, sofar_of, right, behind_right};
 
 use crate::counted::{elements, field_fits};
 use crate::extent::holds;
-use crate::fault::CheckFault;
 use crate::field::{field_decl, field_info};
 use crate::frame::Frame;
-use crate::info::FieldInfo;
-use crate::judged::both;
 use crate::outside::stars_of;
 use crate::routine::base_for;
 use crate::shape::{OneField, Shape, Within};
 use crate::sofar::Sofar;
 use indexmap::IndexMap;
 use kt_grammar::Base;
+use kt_names::fault::CheckFault;
+use kt_names::info::FieldInfo;
+use kt_names::judged::both;
 use kt_syntax::{Declarator, Fields};
 use std::alloc::Global;
 

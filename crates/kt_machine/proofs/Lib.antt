@@ -9,6 +9,7 @@ pub mod MainEntry
 pub mod Memory
 pub mod Placed
 pub mod Printing
+pub mod RunLemmas
 pub mod SameEngines
 pub mod SameRuns
 pub mod SameStates
@@ -18,3 +19,4 @@ pub mod SameUpdates
 pub mod Starting
 pub mod Trying
 pub mod Turning
+pub mod UnderWay

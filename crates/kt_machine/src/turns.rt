@@ -1,11 +1,12 @@
 //! Takes the turns of a job, from its first to its end.
 
-ghost use Rattle.std.specs.Prelude.{IfOk};
+ghost use Rattle.std.specs.Prelude.{◌≡◌, IfOk};
 ghost use Rattle.kt_world.specs.Plain.{job_of};
 ghost use Rattle.kt_world.specs.Typed.{IsTypedJob};
 ghost use Rattle.kt_machine.specs.Engine.{AreCodesOf};
 ghost use Rattle.kt_machine.specs.Report.{HasRun, IsWellFormedJob};
 
+use crate::machine::Machine;
 use kt_pair::Compiled;
 use kt_world::job::Job;
 use kt_world::mark::{End, Mark};
@@ -27,5 +28,27 @@ pub fn take_turns(alloc: Global, job: &Job, codes: &[Compiled]) -> Result<Report
     requires typed { IsTypedJob (job_of job.now) }
     ensures { IfOk result (λ report. HasRun (job_of job.now) report.turns report.how report.output.items report.marks.items) }
 {
-    Err(AllocError)
+    let mut machine = Machine::new(alloc, job, codes)?;
+    loop {
+        if let Some(how) = machine.ended() {
+            return Ok(report_of(machine, how));
+        }
+        machine.turn(alloc, job, codes)?;
+    }
+}
+
+fn report_of(machine: Machine, how: End) -> Report
+    ensures output { result.output.items ≡ machine.shared.outside.output }
+    ensures turns { result.turns ≡ machine.shared.turns }
+    ensures marks { result.marks.items ≡ machine.shared.marks }
+    ensures how { result.how ≡ how }
+{
+    let turns = machine.turns();
+    let (output, marks) = machine.into_output_and_marks();
+    Report {
+        output,
+        turns,
+        marks,
+        how,
+    }
 }

@@ -13,8 +13,8 @@ use Rattle.kt_syntax.specs.File.{OneTree, IsTree}
 use Rattle.kt_syntax.specs.Spelling.{externals}
 use Rattle.kt_syntax.specs.FaultPlaces.{BeginsFile, IsRefused, IsSyntaxAt, IsDeepAt}
 use Rattle.kt_syntax.specs.Places.{BreaksOff, IsTooDeepAt, place_of}
-use Rattle.kt_check.specs.declared.fault.CheckFault.{CheckFault}
-use Rattle.kt_check.specs.declared.fault.CheckFault.TheVariants as check
+use Rattle.kt_names.specs.declared.fault.CheckFault.{CheckFault}
+use Rattle.kt_names.specs.declared.fault.CheckFault.TheVariants as check
 use Rattle.kt_tree.specs.Version.{Program}
 use Rattle.kt_play.specs.declared.status.Cause.{Cause}
 use Rattle.kt_play.specs.declared.status.Cause.TheVariants.{Byte, Unclosed, Literal, Directive, Syntax, TooDeep, Unknown, Twice, BadType, Incomplete, TooBig, Entry, Note, NoMain, Later}

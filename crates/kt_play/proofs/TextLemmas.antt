@@ -11,7 +11,7 @@ use Rattle.kt_syntax.specs.Spelling.{externals}
 use Rattle.kt_syntax.specs.FaultPlaces.{BeginsFile, IsRefused, IsSyntaxAt, IsDeepAt}
 use Rattle.kt_syntax.specs.Places.{BreaksOff, IsTooDeepAt}
 use Rattle.kt_syntax.specs.Tree.{Tree}
-use Rattle.kt_check.specs.declared.fault.CheckFault.{CheckFault}
+use Rattle.kt_names.specs.declared.fault.CheckFault.{CheckFault}
 use Rattle.kt_check.specs.Files.{version_of}
 use Rattle.kt_tree.specs.Version.{Program}
 use Rattle.kt_small.specs.Tree.{Version}

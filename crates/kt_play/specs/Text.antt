@@ -7,8 +7,8 @@ use Rattle.kt_lex.specs.Tokens.{tokens_of}
 use Rattle.kt_syntax.specs.File.{IsTree}
 use Rattle.kt_syntax.specs.Places.{BreaksOff, IsTooDeepAt}
 use Rattle.kt_syntax.specs.Tree.{Tree}
-use Rattle.kt_check.specs.declared.fault.CheckFault.{CheckFault}
-use Rattle.kt_check.specs.declared.fault.CheckFault.TheVariants as check
+use Rattle.kt_names.specs.declared.fault.CheckFault.{CheckFault}
+use Rattle.kt_names.specs.declared.fault.CheckFault.TheVariants as check
 use Rattle.kt_check.specs.Files.{version_of}
 use Rattle.kt_tree.specs.Version.{Program}
 use Rattle.kt_small.specs.Tree.{Version}

@@ -3,8 +3,8 @@
 ghost use Rattle.std.specs.Prelude.{◌≡◌, ◌≢◌, ◌<◌, ◌^◌, List, ℕ, Ok, Err, IfOk, IfErr, length};
 ghost use Rattle.kt_lex.specs.Tokens.{tokens_of};
 ghost use Rattle.kt_check.specs.Files.{version_of};
-ghost use Rattle.kt_check.specs.declared.fault.CheckFault.{CheckFault};
-ghost use Rattle.kt_check.specs.declared.fault.CheckFault.TheVariants as check_fault;
+ghost use Rattle.kt_names.specs.declared.fault.CheckFault.{CheckFault};
+ghost use Rattle.kt_names.specs.declared.fault.CheckFault.TheVariants as check_fault;
 ghost use Rattle.kt_syntax.specs.File.{IsTree};
 ghost use Rattle.kt_syntax.specs.Places.{BreaksOff, IsTooDeepAt};
 ghost use Rattle.kt_syntax.specs.Tree.{tree_of};

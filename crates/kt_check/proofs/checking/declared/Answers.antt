@@ -1,7 +1,7 @@
 use Rattle.std.proofs.Common.{map, ap, ◌∙◌, subst, List, ℕ}
 use Rattle.kt_syntax.specs.Tree.{external_of}
-use Rattle.kt_check.specs.Judges.{Judges}
-use Rattle.kt_check.specs.Tables.{outer_named}
+use Rattle.kt_names.specs.Judges.{Judges}
+use Rattle.kt_names.specs.Tables.{outer_named}
 use Rattle.kt_check.specs.Files.{Frame}
 use Rattle.kt_check.specs.Stages.{sofar_of, typed_from}
 use Rattle.kt_check.proofs.checking.declared.Goals as goal

@@ -1,6 +1,6 @@
 use Rattle.std.proofs.Common.{ap, ◌∙◌, map}
-use Rattle.kt_check.specs.declared.ctype.Root.TheVariants as root
-use Rattle.kt_check.specs.Types.{number_of_struct}
+use Rattle.kt_names.specs.declared.ctype.Root.TheVariants as root
+use Rattle.kt_names.specs.Types.{number_of_struct}
 use Rattle.kt_check.proofs.Declarations.{struct-found, struct-missing}
 use Rattle.kt_check.proofs.declarator.struct_root.Goals as goal
 

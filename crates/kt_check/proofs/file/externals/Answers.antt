@@ -2,7 +2,7 @@ use Rattle.std.proofs.Common.{◌∙◌, ◌+◌, drop, map}
 use Rattle.kt_syntax.specs.Tree.{external_of}
 use Rattle.kt_check.specs.Files.{external, externals}
 use Rattle.kt_check.specs.Stages.{frame_seen, sofar_of}
-use Rattle.kt_check.proofs.Parts.{fails, follows}
+use Rattle.kt_names.proofs.Parts.{fails, follows}
 use Rattle.kt_check.proofs.ItemSteps.{at-item, fails-as}
 use Rattle.kt_check.proofs.file.externals.Goals as goal
 

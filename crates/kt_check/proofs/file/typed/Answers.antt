@@ -1,10 +1,10 @@
 use Rattle.std.proofs.Common.{◌≡◌, Ok, subst, if◌then◌else◌}
-use Rattle.kt_check.specs.declared.fault.CheckFault.TheVariants.{NoMain}
-use Rattle.kt_check.specs.Checked.{fault}
-use Rattle.kt_check.specs.Judges.{Fails}
+use Rattle.kt_names.specs.declared.fault.CheckFault.TheVariants.{NoMain}
+use Rattle.kt_names.specs.Checked.{fault}
+use Rattle.kt_names.specs.Judges.{Fails}
 use Rattle.kt_check.specs.Files.{Sofar, externals, nothing_yet, has_main}
 use Rattle.kt_check.specs.Stages.{frame_seen, sofar_of}
-use Rattle.kt_check.proofs.Parts.{fails, judges-follows}
+use Rattle.kt_names.proofs.Parts.{fails, judges-follows}
 use Rattle.kt_check.proofs.file.typed.Goals as goal
 
 pub returns-in-Ok : goal.returns-in-Ok

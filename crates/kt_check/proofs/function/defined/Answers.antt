@@ -1,7 +1,7 @@
 use Rattle.kt_syntax.specs.Tree.{routine_of, definition_of}
-use Rattle.kt_check.specs.Functions.{is_noted}
-use Rattle.kt_check.specs.Views.{environment_of}
-use Rattle.kt_check.specs.Scopes.{state_of}
+use Rattle.kt_names.specs.Functions.{is_noted}
+use Rattle.kt_names.specs.Views.{environment_of}
+use Rattle.kt_names.specs.Scopes.{state_of}
 use Rattle.kt_check.proofs.Functions.{body-is, typed-is, given-made, given-fails}
 use Rattle.kt_check.proofs.function.defined.Goals as goal
 

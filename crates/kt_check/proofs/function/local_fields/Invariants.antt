@@ -1,6 +1,6 @@
 use Rattle.std.proofs.Common.{◌≡◌, map, take}
-use Rattle.kt_check.specs.Views.{environment_of}
-use Rattle.kt_check.specs.Scopes.{declared_as, local_field}
+use Rattle.kt_names.specs.Views.{environment_of}
+use Rattle.kt_names.specs.Scopes.{declared_as, local_field}
 use Rattle.kt_check.proofs.function.local_fields.Given as goal
 
 abbrev pub invariant-loop-local : goal.invariant-loop-local

@@ -1,7 +1,7 @@
-use Rattle.kt_check.specs.Checked.{both}
-use Rattle.kt_check.specs.Statements.{held, pointer_outside, new_name}
-use Rattle.kt_check.specs.Scopes.{state_of, body_of}
-use Rattle.kt_check.proofs.Parts.{judges-pair}
+use Rattle.kt_names.specs.Checked.{both}
+use Rattle.kt_names.specs.Statements.{held, pointer_outside, new_name}
+use Rattle.kt_names.specs.Scopes.{state_of, body_of}
+use Rattle.kt_names.proofs.Parts.{judges-pair}
 use Rattle.kt_check.proofs.function.parameter_parts.Goals as goal
 
 abbrev unit : Unit {0} → Unit {0}

@@ -1,9 +1,9 @@
 use Rattle.std.proofs.Common.{subst, sym, ◌∙◌}
 use Rattle.kt_syntax.specs.Tree.{routine_of}
-use Rattle.kt_check.specs.Judges.{Fails}
-use Rattle.kt_check.specs.Functions.{body_in, is_noted, no_state}
-use Rattle.kt_check.specs.Views.{environment_of}
-use Rattle.kt_check.specs.Scopes.{state_of, body_of}
+use Rattle.kt_names.specs.Judges.{Fails}
+use Rattle.kt_names.specs.Functions.{body_in, is_noted, no_state}
+use Rattle.kt_names.specs.Views.{environment_of}
+use Rattle.kt_names.specs.Scopes.{state_of, body_of}
 use Rattle.kt_check.proofs.Functions.{body-is, parameters-are}
 use Rattle.kt_check.proofs.function.parameters.Goals as goal
 

@@ -1,6 +1,6 @@
 use Rattle.std.proofs.Common.{◌+◌, drop}
-use Rattle.kt_check.specs.Functions.{parameters}
-use Rattle.kt_check.specs.Scopes.{state_of, body_of}
+use Rattle.kt_names.specs.Functions.{parameters}
+use Rattle.kt_names.specs.Scopes.{state_of, body_of}
 use Rattle.kt_check.proofs.Functions.{parameter-fails, rest-is}
 use Rattle.kt_check.proofs.function.parameters_from.Goals as goal
 

@@ -1,10 +1,10 @@
 use Rattle.std.proofs.Common.{refl, ap, map, ◌∙◌}
 use Rattle.kt_syntax.specs.Tree.{statement_of}
-use Rattle.kt_check.specs.Tables.{statement_locals}
-use Rattle.kt_check.specs.Views.{environment_of}
-use Rattle.kt_check.specs.Scopes.{declared_as}
-use Rattle.kt_check.proofs.Adding.{adds-one, adds-two}
-use Rattle.kt_check.proofs.Trees.{compound-is, conditional-is, alternative-is, looped-is, repeated-is, counted-is}
+use Rattle.kt_names.specs.Tables.{statement_locals}
+use Rattle.kt_names.specs.Views.{environment_of}
+use Rattle.kt_names.specs.Scopes.{declared_as}
+use Rattle.kt_names.proofs.Adding.{adds-one, adds-two}
+use Rattle.kt_names.proofs.Trees.{compound-is, conditional-is, alternative-is, looped-is, repeated-is, counted-is}
 use Rattle.kt_check.proofs.function_locals.+statements.Goals as goal
 
 pub add_statement-returns-in-Block-clause-added : goal.add_statement-returns-in-Block-clause-added

@@ -1,8 +1,8 @@
 use Rattle.std.proofs.Common.{◌≡◌, ◌++◌, map, drop}
 use Rattle.kt_syntax.specs.Tree.{statement_of, statements_of}
-use Rattle.kt_check.specs.Tables.{block_locals}
-use Rattle.kt_check.specs.Views.{environment_of}
-use Rattle.kt_check.specs.Scopes.{declared_as}
+use Rattle.kt_names.specs.Tables.{block_locals}
+use Rattle.kt_names.specs.Views.{environment_of}
+use Rattle.kt_names.specs.Scopes.{declared_as}
 use Rattle.kt_check.proofs.function_locals.+statements.Given as goal
 
 abbrev pub invariant-add_block-loop-entry : goal.invariant-add_block-loop-entry

@@ -1,8 +1,8 @@
 use Rattle.std.proofs.Common.{◌<◌, ◌≤◌, ◌++◌, List, length, map, get_or, subst, ap, ◌∙◌}
 use Rattle.kt_syntax.specs.declared.tree.LocalDeclarator.{LocalDeclarator}
-use Rattle.kt_check.specs.Tables.{DeclaredLocal}
-use Rattle.kt_check.specs.Views.{environment_of}
-use Rattle.kt_check.specs.Scopes.{declared_as}
+use Rattle.kt_names.specs.Tables.{DeclaredLocal}
+use Rattle.kt_names.specs.Views.{environment_of}
+use Rattle.kt_names.specs.Scopes.{declared_as}
 use Rattle.kt_check.proofs.FunctionLocals.{local_as, one-more, all-of, locals-are}
 use Rattle.kt_check.proofs.function_locals.add_declaration.Goals as goal
 

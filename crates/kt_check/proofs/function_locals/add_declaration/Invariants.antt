@@ -1,6 +1,6 @@
 use Rattle.std.proofs.Common.{◌≡◌, ◌++◌, map, take}
-use Rattle.kt_check.specs.Views.{environment_of}
-use Rattle.kt_check.specs.Scopes.{declared_as}
+use Rattle.kt_names.specs.Views.{environment_of}
+use Rattle.kt_names.specs.Scopes.{declared_as}
 use Rattle.kt_check.proofs.FunctionLocals.{local_as}
 use Rattle.kt_check.proofs.function_locals.add_declaration.Given as goal
 

@@ -1,7 +1,7 @@
 use Rattle.std.proofs.Common.{map}
-use Rattle.kt_check.specs.Tables.{parameter_local}
-use Rattle.kt_check.specs.Views.{environment_of}
-use Rattle.kt_check.specs.Scopes.{declared_as}
+use Rattle.kt_names.specs.Tables.{parameter_local}
+use Rattle.kt_names.specs.Views.{environment_of}
+use Rattle.kt_names.specs.Scopes.{declared_as}
 use Rattle.kt_check.proofs.FunctionLocals.{one-more, all-of}
 use Rattle.kt_check.proofs.function_locals.add_parameters.Goals as goal
 

@@ -2,8 +2,8 @@ use Rattle.std.proofs.Common.{◌≡◌, ℕ, List, drop}
 use Rattle.std.specs.Map.{lookup}
 use Rattle.std.specs.Option.{option_or}
 use Rattle.std.specs.Str.{bytes_eq}
-use Rattle.kt_check.specs.Firsts.{first_place}
-use Rattle.kt_check.proofs.Firsts.{place_from}
+use Rattle.kt_names.specs.Firsts.{first_place}
+use Rattle.kt_names.proofs.Firsts.{place_from}
 use Rattle.kt_check.proofs.function_locals.first_places.Given as goal
 
 abbrev pub invariant-loop-place : goal.invariant-loop-place

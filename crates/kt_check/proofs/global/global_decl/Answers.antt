@@ -1,8 +1,8 @@
 use Rattle.std.proofs.Common.{◌≡◌, Ok, subst, sym, ap, ◌∙◌}
-use Rattle.kt_check.specs.Environment.{Environment}
-use Rattle.kt_check.specs.Types.{place_in}
-use Rattle.kt_check.specs.Statements.{pointer_outside}
-use Rattle.kt_check.specs.Tables.{view_of}
+use Rattle.kt_names.specs.Environment.{Environment}
+use Rattle.kt_names.specs.Types.{place_in}
+use Rattle.kt_names.specs.Statements.{pointer_outside}
+use Rattle.kt_names.specs.Tables.{view_of}
 use Rattle.kt_check.specs.Stages.{frame_seen}
 use Rattle.kt_check.proofs.global.global_decl.Goals as goal
 

@@ -1,8 +1,8 @@
 use Rattle.std.proofs.Common.{subst}
-use Rattle.kt_check.specs.Judges.{Judges}
-use Rattle.kt_check.specs.Statements.{pointer_outside}
+use Rattle.kt_names.specs.Judges.{Judges}
+use Rattle.kt_names.specs.Statements.{pointer_outside}
 use Rattle.kt_check.specs.Stages.{right, named_seen}
-use Rattle.kt_check.proofs.Parts.{judges-pair}
+use Rattle.kt_names.proofs.Parts.{judges-pair}
 use Rattle.kt_check.proofs.global.global_parts.Goals as goal
 
 pub returns : goal.returns

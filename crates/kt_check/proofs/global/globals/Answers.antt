@@ -1,14 +1,14 @@
 use Rattle.std.proofs.Common.{◌≡◌, ◌||◌, not, Ok, subst, map}
-use Rattle.kt_check.specs.declared.fault.CheckFault.TheVariants.{Incomplete}
-use Rattle.kt_check.specs.Checked.{holds}
-use Rattle.kt_check.specs.Judges.{Fails}
-use Rattle.kt_check.specs.Environment.{is_complete}
-use Rattle.kt_check.specs.Types.{ctype}
-use Rattle.kt_check.specs.Uses.{stars_of}
-use Rattle.kt_check.specs.Statements.{base_for, struct_place}
+use Rattle.kt_names.specs.declared.fault.CheckFault.TheVariants.{Incomplete}
+use Rattle.kt_names.specs.Checked.{holds}
+use Rattle.kt_names.specs.Judges.{Fails}
+use Rattle.kt_names.specs.Environment.{is_complete}
+use Rattle.kt_names.specs.Types.{ctype}
+use Rattle.kt_names.specs.Uses.{stars_of}
+use Rattle.kt_names.specs.Statements.{base_for, struct_place}
 use Rattle.kt_check.specs.Files.{outside, globals_from}
 use Rattle.kt_check.specs.Stages.{frame_seen, sofar_of}
-use Rattle.kt_check.proofs.Parts.{fails, judges-follows}
+use Rattle.kt_names.proofs.Parts.{fails, judges-follows}
 use Rattle.kt_check.proofs.global.globals.Goals as goal
 
 pub returns-in-Ok-clause-sofar : goal.returns-in-Ok-clause-sofar

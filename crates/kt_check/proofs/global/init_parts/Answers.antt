@@ -1,13 +1,13 @@
 use Rattle.std.proofs.Common.{◌≡◌, ◌+◌, ◌*◌, ◌&&◌, nat_le, is_some, rules, subst}
-use Rattle.kt_check.specs.declared.fault.CheckFault.TheVariants.{TooBig}
-use Rattle.kt_check.specs.Checked.{holds}
-use Rattle.kt_check.specs.Environment.{cells_of}
-use Rattle.kt_check.specs.Judges.{Judges}
-use Rattle.kt_check.specs.Statements.{declarator_place}
-use Rattle.kt_check.specs.Tables.{declared_type}
+use Rattle.kt_names.specs.declared.fault.CheckFault.TheVariants.{TooBig}
+use Rattle.kt_names.specs.Checked.{holds}
+use Rattle.kt_names.specs.Environment.{cells_of}
+use Rattle.kt_names.specs.Judges.{Judges}
+use Rattle.kt_names.specs.Statements.{declarator_place}
+use Rattle.kt_names.specs.Tables.{declared_type}
 use Rattle.kt_check.specs.Files.{outside, is_array_count, count_of, initial_of}
 use Rattle.kt_check.specs.Stages.{frame_seen, sofar_of, right}
-use Rattle.kt_check.proofs.Parts.{judges-pair}
+use Rattle.kt_names.proofs.Parts.{judges-pair}
 use Rattle.kt_check.proofs.global.init_parts.Goals as goal
 
 pub returns : goal.returns

@@ -1,10 +1,10 @@
 use Rattle.std.proofs.Common.{◌≡◌, subst, not, ◌||◌}
-use Rattle.kt_check.specs.declared.fault.CheckFault.TheVariants.{Twice}
-use Rattle.kt_check.specs.Checked.{holds}
-use Rattle.kt_check.specs.Judges.{Judges}
+use Rattle.kt_names.specs.declared.fault.CheckFault.TheVariants.{Twice}
+use Rattle.kt_names.specs.Checked.{holds}
+use Rattle.kt_names.specs.Judges.{Judges}
 use Rattle.kt_check.specs.Files.{has_global, has_routine}
 use Rattle.kt_check.specs.Stages.{frame_seen, sofar_of, right, behind_right}
-use Rattle.kt_check.proofs.Parts.{judges-pair}
+use Rattle.kt_names.proofs.Parts.{judges-pair}
 use Rattle.kt_check.proofs.global.once_parts.Goals as goal
 
 pub returns : goal.returns

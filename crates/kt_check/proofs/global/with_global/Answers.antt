@@ -1,7 +1,7 @@
 use Rattle.std.proofs.Common.{sym, ap, ◌∙◌, map, ◌++◌, ◌∷◌, []}
 use Rattle.kt_tree.specs.declared.global.GlobalDecl.{GlobalDecl}
 use Rattle.std.proofs.lemmas.List.{map-append}
-use Rattle.kt_check.specs.Environment.{cells_of}
+use Rattle.kt_names.specs.Environment.{cells_of}
 use Rattle.kt_check.specs.Files.{outside, has_global, has_routine}
 use Rattle.kt_check.specs.Stages.{frame_seen, sofar_of}
 use Rattle.kt_check.proofs.Right.{sizes-right, fits-second, fits-whole, global-right, name-added, or-left}

@@ -1,15 +1,15 @@
 use Rattle.std.proofs.Common.{Ok, Option, subst, sym}
 use Rattle.std.specs.Option.{option_map}
 use Rattle.kt_grammar.specs.declared.tree.Expr.{Expr}
-use Rattle.kt_check.specs.Statements.{initial}
-use Rattle.kt_check.specs.Scopes.{body_of, state_of}
+use Rattle.kt_names.specs.Statements.{initial}
+use Rattle.kt_names.specs.Scopes.{body_of, state_of}
 use Rattle.kt_grammar.specs.Tree.{term_of}
 use Rattle.kt_tree.specs.Tree.{Evaluated, LocalSet, statement_of}
-use Rattle.kt_check.specs.Checked.{and_then}
-use Rattle.kt_check.specs.Environment.{Environment}
-use Rattle.kt_check.specs.Judges.{Judges}
-use Rattle.kt_check.specs.Operands.{Operand, convert}
-use Rattle.kt_check.specs.Terms.{typing, first_token}
+use Rattle.kt_names.specs.Checked.{and_then}
+use Rattle.kt_names.specs.Environment.{Environment}
+use Rattle.kt_names.specs.Judges.{Judges}
+use Rattle.kt_names.specs.Operands.{Operand, convert}
+use Rattle.kt_names.specs.Terms.{typing, first_token}
 use Rattle.kt_check.proofs.local.initial.Goals as goal
 
 pub returns-in-Some : goal.returns-in-Some

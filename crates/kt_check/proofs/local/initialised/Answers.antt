@@ -1,11 +1,11 @@
 use Rattle.std.proofs.Common.{Ok, ap}
 use Rattle.kt_grammar.specs.Tree.{term_of}
 use Rattle.kt_tree.specs.Tree.{Evaluated, LocalSet, statement_of}
-use Rattle.kt_check.specs.Checked.{and_then}
-use Rattle.kt_check.specs.Operands.{Operand, convert}
-use Rattle.kt_check.specs.Terms.{typing, first_token}
-use Rattle.kt_check.specs.Views.{environment_of, operand_of}
-use Rattle.kt_check.proofs.Parts.{fails, judges-follows}
+use Rattle.kt_names.specs.Checked.{and_then}
+use Rattle.kt_names.specs.Operands.{Operand, convert}
+use Rattle.kt_names.specs.Terms.{typing, first_token}
+use Rattle.kt_names.specs.Views.{environment_of, operand_of}
+use Rattle.kt_names.proofs.Parts.{fails, judges-follows}
 use Rattle.kt_check.proofs.local.initialised.Goals as goal
 
 pub returns-in-Err : goal.returns-in-Err

@@ -1,8 +1,8 @@
 use Rattle.std.proofs.Common.{Ok}
 use Rattle.kt_tree.specs.Tree.{Evaluated, LocalSet, statement_of, expression_of}
-use Rattle.kt_check.specs.Operands.{convert}
-use Rattle.kt_check.specs.Views.{environment_of, operand_of}
-use Rattle.kt_check.proofs.Parts.{fails, judges-follows}
+use Rattle.kt_names.specs.Operands.{convert}
+use Rattle.kt_names.specs.Views.{environment_of, operand_of}
+use Rattle.kt_names.proofs.Parts.{fails, judges-follows}
 use Rattle.kt_check.proofs.local.initialised_by.Goals as goal
 
 pub returns-in-Err : goal.returns-in-Err

@@ -3,13 +3,13 @@ use Rattle.std.specs.Option.{option_map}
 use Rattle.kt_grammar.specs.Tree.{term_of}
 use Rattle.kt_tree.specs.declared.stmt.Stmt.{Stmt}
 use Rattle.kt_tree.specs.Tree.{statement_of}
-use Rattle.kt_check.specs.Checked.{both}
-use Rattle.kt_check.specs.Judges.{Judges}
-use Rattle.kt_check.specs.Types.{ctype}
-use Rattle.kt_check.specs.Uses.{stars_of}
-use Rattle.kt_check.specs.Statements.{here, declared, declarator_place, held, pointer_outside, new_name, initial}
-use Rattle.kt_check.specs.Scopes.{state_of, body_of}
-use Rattle.kt_check.proofs.Parts.{judges-pair}
+use Rattle.kt_names.specs.Checked.{both}
+use Rattle.kt_names.specs.Judges.{Judges}
+use Rattle.kt_names.specs.Types.{ctype}
+use Rattle.kt_names.specs.Uses.{stars_of}
+use Rattle.kt_names.specs.Statements.{here, declared, declarator_place, held, pointer_outside, new_name, initial}
+use Rattle.kt_names.specs.Scopes.{state_of, body_of}
+use Rattle.kt_names.proofs.Parts.{judges-pair}
 use Rattle.kt_check.proofs.LocalParts.{initial-by}
 use Rattle.kt_check.proofs.local.local_parts.Goals as goal
 

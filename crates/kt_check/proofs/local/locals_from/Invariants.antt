@@ -1,8 +1,8 @@
 use Rattle.std.proofs.Common.{map, drop}
 use Rattle.kt_syntax.specs.Tree.{local_of}
 use Rattle.kt_tree.specs.Tree.{statement_of}
-use Rattle.kt_check.specs.Statements.{locals_from}
-use Rattle.kt_check.specs.Scopes.{state_of, body_of, Grown}
+use Rattle.kt_names.specs.Statements.{locals_from}
+use Rattle.kt_names.specs.Scopes.{state_of, body_of, Grown}
 use Rattle.kt_check.proofs.LocalParts.{Lists}
 use Rattle.kt_check.proofs.local.locals_from.Given as goal
 

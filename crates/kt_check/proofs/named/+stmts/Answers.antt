@@ -1,5 +1,5 @@
 use Rattle.std.proofs.lemmas.Bool.{and_from}
-use Rattle.kt_check.proofs.Trees.{conditional-is, alternative-is, looped-is, repeated-is, counted-is}
+use Rattle.kt_names.proofs.Trees.{conditional-is, alternative-is, looped-is, repeated-is, counted-is}
 use Rattle.kt_check.proofs.named.+stmts.Goals as goal
 
 pub statement-returns-in-If : goal.statement-returns-in-If

@@ -1,9 +1,9 @@
 use Rattle.std.proofs.Common.{subst}
 use Rattle.kt_grammar.specs.Tree.{term_of}
 use Rattle.kt_tree.specs.Tree.{expression_of}
-use Rattle.kt_check.specs.Environment.{Environment}
-use Rattle.kt_check.specs.Judges.{Judges}
-use Rattle.kt_check.specs.Statements.{effect_of}
+use Rattle.kt_names.specs.Environment.{Environment}
+use Rattle.kt_names.specs.Judges.{Judges}
+use Rattle.kt_names.specs.Statements.{effect_of}
 use Rattle.kt_check.proofs.part.effect_of.Goals as goal
 
 pub returns : goal.returns

@@ -3,12 +3,12 @@ use Rattle.std.specs.Option.{option_map}
 use Rattle.kt_grammar.specs.declared.tree.Expr.{Expr}
 use Rattle.kt_grammar.specs.Tree.{term_of}
 use Rattle.kt_tree.specs.Tree.{statement_of}
-use Rattle.kt_check.specs.Checked.{and_then}
-use Rattle.kt_check.specs.Environment.{Environment}
-use Rattle.kt_check.specs.Judges.{Judges}
-use Rattle.kt_check.specs.Statements.{returned}
-use Rattle.kt_check.specs.Terms.{typing, first_token}
-use Rattle.kt_check.specs.Scopes.{body_of, state_of, returned_of}
+use Rattle.kt_names.specs.Checked.{and_then}
+use Rattle.kt_names.specs.Environment.{Environment}
+use Rattle.kt_names.specs.Judges.{Judges}
+use Rattle.kt_names.specs.Statements.{returned}
+use Rattle.kt_names.specs.Terms.{typing, first_token}
+use Rattle.kt_names.specs.Scopes.{body_of, state_of, returned_of}
 use Rattle.kt_check.proofs.LocalParts.{returned-by}
 use Rattle.kt_check.proofs.part.returned.Goals as goal
 

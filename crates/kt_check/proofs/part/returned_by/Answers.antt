@@ -1,8 +1,8 @@
 use Rattle.std.proofs.Common.{Ok, Some}
 use Rattle.kt_tree.specs.Tree.{Expression, Returned, expression_of}
-use Rattle.kt_check.specs.Operands.{convert}
-use Rattle.kt_check.specs.Views.{environment_of, operand_of}
-use Rattle.kt_check.proofs.Parts.{fails, follows}
+use Rattle.kt_names.specs.Operands.{convert}
+use Rattle.kt_names.specs.Views.{environment_of, operand_of}
+use Rattle.kt_names.proofs.Parts.{fails, follows}
 use Rattle.kt_check.proofs.part.returned_by.Goals as goal
 
 pub returns-in-Err : goal.returns-in-Err

@@ -1,7 +1,7 @@
 use Rattle.std.proofs.Common.{Ok, ap, ◌∙◌}
-use Rattle.kt_check.specs.Operands.{Value, scalar}
-use Rattle.kt_check.specs.Views.{environment_of, operand_of, value_of}
-use Rattle.kt_check.proofs.Parts.{fails, follows}
+use Rattle.kt_names.specs.Operands.{Value, scalar}
+use Rattle.kt_names.specs.Views.{environment_of, operand_of, value_of}
+use Rattle.kt_names.proofs.Parts.{fails, follows}
 use Rattle.kt_check.proofs.part.scalar_of.Goals as goal
 
 pub returns-in-Err : goal.returns-in-Err

@@ -3,10 +3,10 @@ use Rattle.std.specs.Option.{option_map}
 use Rattle.kt_grammar.specs.declared.tree.Expr.{Expr}
 use Rattle.kt_grammar.specs.Tree.{term_of}
 use Rattle.kt_tree.specs.Tree.{Expression, expression_of}
-use Rattle.kt_check.specs.Judges.{Fails}
-use Rattle.kt_check.specs.Statements.{here, perhaps, condition}
-use Rattle.kt_check.specs.Scopes.{state_of, body_of}
-use Rattle.kt_check.proofs.Parts.{fails, follows}
+use Rattle.kt_names.specs.Judges.{Fails}
+use Rattle.kt_names.specs.Statements.{here, perhaps, condition}
+use Rattle.kt_names.specs.Scopes.{state_of, body_of}
+use Rattle.kt_names.proofs.Parts.{fails, follows}
 use Rattle.kt_check.proofs.part.test.Goals as goal
 
 pub returns-in-Err : goal.returns-in-Err

@@ -1,10 +1,10 @@
 use Rattle.std.proofs.Common.{subst}
 use Rattle.kt_syntax.specs.Tree.{routine_of}
-use Rattle.kt_check.specs.Judges.{Judges}
-use Rattle.kt_check.specs.Functions.{parameters, body_in, is_noted, no_state}
-use Rattle.kt_check.specs.Scopes.{state_of}
+use Rattle.kt_names.specs.Judges.{Judges}
+use Rattle.kt_names.specs.Functions.{parameters, body_in, is_noted, no_state}
+use Rattle.kt_names.specs.Scopes.{state_of}
 use Rattle.kt_check.specs.Stages.{right}
-use Rattle.kt_check.proofs.Parts.{judges-pair}
+use Rattle.kt_names.proofs.Parts.{judges-pair}
 use Rattle.kt_check.proofs.routine.agreed_parts.Goals as goal
 
 pub returns : goal.returns

@@ -1,8 +1,8 @@
 use Rattle.std.proofs.Common.{Ok, sym, subst}
 use Rattle.kt_syntax.specs.Tree.{routine_of}
-use Rattle.kt_check.specs.Judges.{Judges}
+use Rattle.kt_names.specs.Judges.{Judges}
 use Rattle.kt_check.specs.Stages.{frame_seen, sofar_of, function_body_of, with_routine, with_bodies, functions_seen}
-use Rattle.kt_check.proofs.Parts.{fails, judges-follows}
+use Rattle.kt_names.proofs.Parts.{fails, judges-follows}
 use Rattle.kt_check.proofs.ItemSteps.{fails-as}
 use Rattle.kt_check.proofs.Right.{function-is}
 use Rattle.kt_check.proofs.routine.function.Goals as goal

@@ -1,8 +1,8 @@
 use Rattle.kt_syntax.specs.Tree.{routine_of}
 use Rattle.kt_check.specs.Files.{outside}
-use Rattle.kt_check.specs.Functions.{defined_function}
+use Rattle.kt_names.specs.Functions.{defined_function}
 use Rattle.kt_check.specs.Stages.{frame_seen, sofar_of, function_parts, function_seen, functions_seen}
-use Rattle.kt_check.proofs.Parts.{fails, judges-follows}
+use Rattle.kt_names.proofs.Parts.{fails, judges-follows}
 use Rattle.kt_check.proofs.Right.{agrees-right, on-ok}
 use Rattle.kt_check.proofs.routine.function_of.Goals as goal
 

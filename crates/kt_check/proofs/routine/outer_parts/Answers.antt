@@ -1,5 +1,5 @@
 use Rattle.kt_check.specs.Stages.{right, new_seen}
-use Rattle.kt_check.proofs.Parts.{judges-pair}
+use Rattle.kt_names.proofs.Parts.{judges-pair}
 use Rattle.kt_check.proofs.routine.outer_parts.Goals as goal
 
 pub returns : goal.returns

@@ -1,5 +1,5 @@
 use Rattle.std.proofs.Common.{◌≡◌, ◌≤◌, ◌-◌, length, drop}
-use Rattle.kt_check.specs.Functions.{same_types}
+use Rattle.kt_names.specs.Functions.{same_types}
 use Rattle.kt_check.specs.Stages.{frame_seen, types_in}
 use Rattle.kt_check.proofs.routine.same_parameters.Given as goal
 

@@ -1,7 +1,7 @@
 use Rattle.std.proofs.Common.{Some, ap, ◌∙◌, if◌then◌else◌}
 use Rattle.std.specs.Map.{lookup}
 use Rattle.std.specs.Str.{bytes_eq}
-use Rattle.kt_check.proofs.Heads.{lookup-inserted}
+use Rattle.kt_names.proofs.Inserted.{lookup-inserted}
 use Rattle.kt_check.proofs.routine.with_head.Goals as goal
 
 pub returns-clause-heads : goal.returns-clause-heads

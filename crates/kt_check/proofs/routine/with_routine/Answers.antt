@@ -3,8 +3,8 @@ use Rattle.std.specs.List.{list_any}
 use Rattle.std.specs.Str.{bytes_eq}
 use Rattle.std.proofs.lemmas.List.{map-append}
 use Rattle.kt_syntax.specs.Tree.{Routine, routine_of}
-use Rattle.kt_check.specs.Statements.{contains}
-use Rattle.kt_check.specs.Functions.{is_defined, is_other_type}
+use Rattle.kt_names.specs.Statements.{contains}
+use Rattle.kt_names.specs.Functions.{is_defined, is_other_type}
 use Rattle.kt_check.specs.Stages.{frame_seen, sofar_of, head_named, is_head_defined, first_routine}
 use Rattle.kt_check.proofs.Heads.{declared-more, defined-more, types-more, agree-types}
 use Rattle.kt_check.proofs.routine.with_routine.Goals as goal

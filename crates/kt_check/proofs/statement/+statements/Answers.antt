@@ -6,14 +6,14 @@ use Rattle.kt_syntax.specs.declared.tree.Stmt.TheVariants as stmt
 use Rattle.kt_syntax.specs.Tree as syntax
 use Rattle.kt_tree.specs.declared.stmt.Stmt.{Stmt}
 use Rattle.kt_tree.specs.Tree.{Expression, Statement, Conditional, Looped, Compound, Done, Broken, Continued, expression_of, statement_of, statements_of}
-use Rattle.kt_check.specs.Checked.{Checked, and_then}
-use Rattle.kt_check.specs.Judges.{Judges}
-use Rattle.kt_check.specs.Statements.{State, here, condition, statement, entries, returned}
-use Rattle.kt_check.specs.Scopes.{state_of, body_of, pair_of, Heading, head_of, head_in, for_of}
+use Rattle.kt_names.specs.Checked.{Checked, and_then}
+use Rattle.kt_names.specs.Judges.{Judges}
+use Rattle.kt_names.specs.Statements.{State, here, condition, statement, entries, returned}
+use Rattle.kt_names.specs.Scopes.{state_of, body_of, pair_of, Heading, head_of, head_in, for_of}
 use Rattle.kt_check.specs.Blocks.{single}
-use Rattle.kt_check.proofs.Parts.{fails, follows, judges-follows}
+use Rattle.kt_names.proofs.Parts.{fails, follows, judges-follows}
 use Rattle.kt_check.proofs.Entries.{left-kept, left-within, block-is, block-fails, entry-locals, entry-statement, kept-state, grown-kept, grown-more, grown-same, begun, Stands}
-use Rattle.kt_check.proofs.Trees.{conditional-is, alternative-is, looped-is, repeated-is, counted-is, compound-is}
+use Rattle.kt_names.proofs.Trees.{conditional-is, alternative-is, looped-is, repeated-is, counted-is, compound-is}
 use Rattle.kt_check.proofs.Blocks.{written, with_next, with_state, ok-all, ok-kept, ok-grown, stated, left-is, made-behind, conditional-made, conditional-fails, alternative-made, alternative-fails, looped-made, looped-fails, repeated-made, repeated-fails, for-made, for-fails, single-made, entry-next, entry-fails, entries-end}
 use Rattle.kt_check.proofs.statement.+statements.Goals as goal
 

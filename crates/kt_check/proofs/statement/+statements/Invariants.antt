@@ -1,7 +1,7 @@
 use Rattle.std.proofs.Common.{map, drop}
 use Rattle.kt_tree.specs.Tree.{statement_of}
-use Rattle.kt_check.specs.Statements.{entries}
-use Rattle.kt_check.specs.Scopes.{state_of, body_of, Grown}
+use Rattle.kt_names.specs.Statements.{entries}
+use Rattle.kt_names.specs.Scopes.{state_of, body_of, Grown}
 use Rattle.kt_check.proofs.Entries.{Stands}
 use Rattle.kt_check.proofs.Blocks.{written}
 use Rattle.kt_check.proofs.statement.+statements.Given as goal

@@ -1,7 +1,7 @@
 use Rattle.std.proofs.Common.{◌≤◌, subst, sym, ◌∙◌}
 use Rattle.kt_syntax.specs.Tree.{declaration_of}
 use Rattle.kt_tree.specs.Tree.{statement_of}
-use Rattle.kt_check.specs.Scopes.{state_of, body_of}
+use Rattle.kt_names.specs.Scopes.{state_of, body_of}
 use Rattle.kt_check.proofs.Entries.{alone-is, alone-fails, left-kept, left-within}
 use Rattle.kt_check.proofs.statement.declared_alone.Goals as goal
 

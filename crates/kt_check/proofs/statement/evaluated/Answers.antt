@@ -1,9 +1,9 @@
 use Rattle.std.proofs.Common.{Ok}
 use Rattle.kt_grammar.specs.Tree.{term_of}
 use Rattle.kt_tree.specs.Tree.{Expression, Evaluated, expression_of}
-use Rattle.kt_check.specs.Statements.{here, effect_of}
-use Rattle.kt_check.specs.Scopes.{state_of, body_of}
-use Rattle.kt_check.proofs.Parts.{fails, follows}
+use Rattle.kt_names.specs.Statements.{here, effect_of}
+use Rattle.kt_names.specs.Scopes.{state_of, body_of}
+use Rattle.kt_names.proofs.Parts.{fails, follows}
 use Rattle.kt_check.proofs.statement.evaluated.Goals as goal
 
 pub returns-in-Err : goal.returns-in-Err

@@ -3,10 +3,10 @@ use Rattle.std.specs.Option.{option_map}
 use Rattle.kt_grammar.specs.Tree.{term_of}
 use Rattle.kt_syntax.specs.Tree.{start_of}
 use Rattle.kt_tree.specs.Tree.{statement_of}
-use Rattle.kt_check.specs.declared.head.Head.{Head}
-use Rattle.kt_check.specs.Statements.{start}
-use Rattle.kt_check.specs.Scopes.{state_of, body_of, head_of}
-use Rattle.kt_check.proofs.Parts.{judges-follows}
+use Rattle.kt_names.specs.declared.head.Head.{Head}
+use Rattle.kt_names.specs.Statements.{start}
+use Rattle.kt_names.specs.Scopes.{state_of, body_of, head_of}
+use Rattle.kt_names.proofs.Parts.{judges-follows}
 use Rattle.kt_check.proofs.Entries.{head_then, head-is}
 use Rattle.kt_check.proofs.statement.head.Goals as goal
 

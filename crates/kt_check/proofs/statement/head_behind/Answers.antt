@@ -2,9 +2,9 @@ use Rattle.std.proofs.Common.{map}
 use Rattle.std.specs.Option.{option_map}
 use Rattle.kt_grammar.specs.Tree.{term_of}
 use Rattle.kt_tree.specs.Tree.{expression_of, statement_of}
-use Rattle.kt_check.specs.Statements.{here, perhaps, condition}
-use Rattle.kt_check.specs.Scopes.{heading_tested, head_of, state_of, body_of}
-use Rattle.kt_check.proofs.Parts.{fails, judges-follows}
+use Rattle.kt_names.specs.Statements.{here, perhaps, condition}
+use Rattle.kt_names.specs.Scopes.{heading_tested, head_of, state_of, body_of}
+use Rattle.kt_names.proofs.Parts.{fails, judges-follows}
 use Rattle.kt_check.proofs.statement.head_behind.Goals as goal
 
 pub returns-in-Err : goal.returns-in-Err

@@ -2,9 +2,9 @@ use Rattle.std.proofs.Common.{map}
 use Rattle.std.specs.Option.{option_map}
 use Rattle.kt_grammar.specs.Tree.{term_of}
 use Rattle.kt_tree.specs.Tree.{expression_of, statement_of}
-use Rattle.kt_check.specs.Statements.{here, perhaps, effect_of}
-use Rattle.kt_check.specs.Scopes.{heading, state_of, body_of}
-use Rattle.kt_check.proofs.Parts.{fails, follows}
+use Rattle.kt_names.specs.Statements.{here, perhaps, effect_of}
+use Rattle.kt_names.specs.Scopes.{heading, state_of, body_of}
+use Rattle.kt_names.proofs.Parts.{fails, follows}
 use Rattle.kt_check.proofs.statement.head_with.Goals as goal
 
 pub returns-in-Err : goal.returns-in-Err

@@ -3,9 +3,9 @@ use Rattle.kt_syntax.specs.declared.tree.ForStart.{ForStart}
 use Rattle.kt_syntax.specs.Tree.{start_of}
 use Rattle.kt_tree.specs.declared.stmt.Stmt.{Stmt}
 use Rattle.kt_tree.specs.Tree.{Statement, statement_of}
-use Rattle.kt_check.specs.Judges.{Judges}
-use Rattle.kt_check.specs.Statements.{State, start}
-use Rattle.kt_check.specs.Scopes.{state_of, body_of}
+use Rattle.kt_names.specs.Judges.{Judges}
+use Rattle.kt_names.specs.Statements.{State, start}
+use Rattle.kt_names.specs.Scopes.{state_of, body_of}
 use Rattle.kt_check.proofs.statement.start.Goals as goal
 
 pub returns-in-Expr-clause-judged : goal.returns-in-Expr-clause-judged

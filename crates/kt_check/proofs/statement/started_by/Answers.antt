@@ -2,9 +2,9 @@ use Rattle.std.proofs.Common.{Ok, List, [], ◌∷◌, map}
 use Rattle.kt_grammar.specs.Tree.{term_of}
 use Rattle.kt_tree.specs.declared.stmt.Stmt.{Stmt}
 use Rattle.kt_tree.specs.Tree.{Expression, Evaluated, expression_of, statement_of}
-use Rattle.kt_check.specs.Statements.{here, effect_of}
-use Rattle.kt_check.specs.Scopes.{state_of, body_of}
-use Rattle.kt_check.proofs.Parts.{fails, judges-follows}
+use Rattle.kt_names.specs.Statements.{here, effect_of}
+use Rattle.kt_names.specs.Scopes.{state_of, body_of}
+use Rattle.kt_names.proofs.Parts.{fails, judges-follows}
 use Rattle.kt_check.proofs.Entries.{paired}
 use Rattle.kt_check.proofs.statement.started_by.Goals as goal
 

@@ -1,12 +1,12 @@
 use Rattle.std.proofs.Common.{◌≡◌, not, is_some, ap, ◌∙◌, subst}
-use Rattle.kt_check.specs.declared.fault.CheckFault.TheVariants.{Twice}
-use Rattle.kt_check.specs.Checked.{holds}
-use Rattle.kt_check.specs.Environment.{struct_numbered}
-use Rattle.kt_check.specs.Types.{number_of_struct}
-use Rattle.kt_check.specs.Judges.{Judges}
+use Rattle.kt_names.specs.declared.fault.CheckFault.TheVariants.{Twice}
+use Rattle.kt_names.specs.Checked.{holds}
+use Rattle.kt_names.specs.Environment.{struct_numbered}
+use Rattle.kt_names.specs.Types.{number_of_struct}
+use Rattle.kt_names.specs.Judges.{Judges}
 use Rattle.kt_check.specs.Shapes.{within_of}
 use Rattle.kt_check.specs.Stages.{frame_seen, sofar_of, right}
-use Rattle.kt_check.proofs.Parts.{judges-pair}
+use Rattle.kt_names.proofs.Parts.{judges-pair}
 use Rattle.kt_check.proofs.structure.struct_parts.Goals as goal
 
 pub returns-clause-parts : goal.returns-clause-parts

@@ -1,7 +1,7 @@
 use Rattle.std.proofs.Common.{◌≡◌, ◌==◌, Ok, sym, ap, ◌∙◌}
 use Rattle.std.specs.Map.{lookup}
 use Rattle.indexmap.proofs.CallerLemmas.{insert_entry-new}
-use Rattle.kt_check.specs.Types.{number_of_struct}
+use Rattle.kt_names.specs.Types.{number_of_struct}
 use Rattle.kt_check.specs.Stages.{frame_seen, sofar_of}
 use Rattle.kt_check.proofs.StructLists.{no-number, struct-new, structs-more, definitions-more}
 use Rattle.kt_check.proofs.structure.with_struct.Goals as goal

@@ -1,9 +1,9 @@
 use Rattle.std.proofs.Common.{subst}
-use Rattle.kt_check.specs.Judges.{Judges}
+use Rattle.kt_names.specs.Judges.{Judges}
 use Rattle.kt_check.specs.Files.{pointer_inside}
 use Rattle.kt_check.specs.Shapes.{one_field, shape_fields}
 use Rattle.kt_check.specs.Stages.{right, behind_right}
-use Rattle.kt_check.proofs.Parts.{judges-pair}
+use Rattle.kt_names.proofs.Parts.{judges-pair}
 use Rattle.kt_check.proofs.within.field_parts.Goals as goal
 
 pub returns : goal.returns

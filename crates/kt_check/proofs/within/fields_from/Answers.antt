@@ -2,7 +2,7 @@ use Rattle.std.proofs.Common.{◌∙◌, ◌+◌, drop, take, map, subst}
 use Rattle.kt_check.specs.Files.{fields_in, fields_of_base, fields_from}
 use Rattle.kt_check.specs.Shapes.{shape_fields, within_of, Grows}
 use Rattle.kt_check.specs.Stages.{frame_seen, sofar_of}
-use Rattle.kt_check.proofs.Parts.{follows}
+use Rattle.kt_names.proofs.Parts.{follows}
 use Rattle.kt_check.proofs.ItemSteps.{at-item}
 use Rattle.kt_check.proofs.FieldLists.{one_of, grows-more, groups-more}
 use Rattle.kt_check.proofs.within.fields_from.Goals as goal

@@ -1,6 +1,6 @@
 use Rattle.std.proofs.Common.{◌≡◌, ◌==◌, drop, map}
 use Rattle.std.specs.List.{list_any}
-use Rattle.kt_check.specs.Uses.{stars_of}
+use Rattle.kt_names.specs.Uses.{stars_of}
 use Rattle.kt_check.proofs.within.has_plain.Given as goal
 
 abbrev pub invariant-loop-declarator : goal.invariant-loop-declarator

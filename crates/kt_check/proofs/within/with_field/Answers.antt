@@ -2,7 +2,7 @@ use Rattle.std.proofs.Common.{◌≡◌, ◌+◌, ◌*◌, ◌≤◌, ◌++◌, 
 use Rattle.std.specs.Map.{lookup}
 use Rattle.std.specs.Str.{bytes_eq}
 use Rattle.indexmap.proofs.CallerLemmas.{insert_entry-new}
-use Rattle.kt_check.specs.Environment.{Environment, cells_of}
+use Rattle.kt_names.specs.Environment.{Environment, cells_of}
 use Rattle.kt_check.specs.Files.{outside, field_cells, field_info, field_decl, pointer_inside}
 use Rattle.kt_check.specs.Shapes.{one_field, shape_fields, within_of}
 use Rattle.kt_check.specs.Stages.{frame_seen, sofar_of}

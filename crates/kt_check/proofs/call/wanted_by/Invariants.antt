@@ -1,6 +1,0 @@
-use Rattle.std.proofs.Common.{◌≡◌, map, take}
-use Rattle.kt_check.specs.declared.argument.Wanted.TheVariants.{Parameter}
-use Rattle.kt_check.proofs.call.wanted_by.Given as goal
-
-abbrev pub invariant-loop-t : goal.invariant-loop-t
-invariant-loop-t l = l.wanted ≡ map Parameter (take l.t-index l.parameters)

@@ -1,7 +1,0 @@
-use Rattle.std.proofs.Common.{◌≡◌, ◌++◌, drop}
-use Rattle.kt_check.specs.Gathered.{written_in}
-use Rattle.kt_check.specs.Tables.{literals_in}
-use Rattle.kt_check.proofs.literals.literals.Given as goal
-
-abbrev pub invariant-loop-written : goal.invariant-loop-written
-invariant-loop-written l = l.literals.items ++ literals_in (written_in (drop l.written-index l.strings)) ≡ literals_in (written_in l.strings)

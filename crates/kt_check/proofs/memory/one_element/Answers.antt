@@ -1,8 +1,0 @@
-use Rattle.std.proofs.Common.{Ok, sym, ap}
-use Rattle.kt_check.specs.Operands.{Value}
-use Rattle.kt_check.specs.Rules.{one}
-use Rattle.kt_check.specs.Views.{environment_of}
-use Rattle.kt_check.proofs.memory.one_element.Goals as goal
-
-pub returns : goal.returns
-returns c = c.allocated.ensures (Ok (one (environment_of c.args.env.now))) (ap (λ (v : Value). Ok v) (sym c.one.ensures))

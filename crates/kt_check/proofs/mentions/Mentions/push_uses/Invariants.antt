@@ -1,7 +1,0 @@
-use Rattle.std.proofs.Common.{◌≡◌, ◌++◌, flat_map, drop}
-use Rattle.kt_check.specs.Gathered.{uses_in}
-use Rattle.kt_check.specs.Uses.{use_structs}
-use Rattle.kt_check.proofs.mentions.Mentions.push_uses.Given as goal
-
-abbrev pub invariant-loop-named : goal.invariant-loop-named
-invariant-loop-named l = l.self ++ flat_map use_structs (uses_in (drop l.named-index l.uses)) ≡ l.fn.self ++ flat_map use_structs (uses_in l.uses)

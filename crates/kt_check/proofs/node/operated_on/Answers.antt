@@ -1,5 +1,0 @@
-use Rattle.kt_check.proofs.Nodes.{operated-by}
-use Rattle.kt_check.proofs.node.operated_on.Goals as goal
-
-pub returns : goal.returns
-returns c = operated-by c.args.operation c.args.ty _ _ c.in_ok-operands.ensures

@@ -1,5 +1,0 @@
-use Rattle.kt_check.proofs.Nodes.{requested-by}
-use Rattle.kt_check.proofs.node.requested.Goals as goal
-
-pub returns : goal.returns
-returns c = requested-by c.args.request c.args.ty _ _ c.new.ensures

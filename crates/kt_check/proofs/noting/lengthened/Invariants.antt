@@ -1,5 +1,0 @@
-use Rattle.kt_check.specs.Placed.{AreStarred}
-use Rattle.kt_check.proofs.noting.lengthened.Given as goal
-
-abbrev pub invariant-loop : goal.invariant-loop
-invariant-loop l = AreStarred l.types.keys l.root l.longer.items

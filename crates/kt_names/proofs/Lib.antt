@@ -1,0 +1,16 @@
+pub mod Adding
+pub mod Firsts
+pub mod Inserted
+pub mod Keys
+pub mod Latest
+pub mod Lookups
+pub mod Nodes
+pub mod Noted
+pub mod Outers
+pub mod Parts
+pub mod Pieces
+pub mod PlacedTypes
+pub mod Roots
+pub mod Strings
+pub mod Trees
+pub mod Visibles
