@@ -1,5 +1,5 @@
 -- What a machine's act does is what the world's does.
-use Rattle.std.specs.Prelude.{◌≡◌, ℕ, true, false, List, [], ◌∷◌, map, Option, None, Some, Result, Ok, Err, OnOk, slice_get, refl}
+use Rattle.std.specs.Prelude.{◌≡◌, true, false, List, [], ◌∷◌, Some, Result, Ok, Err, OnOk, slice_get, refl}
 use Rattle.std.proofs.Common.{sym, subst, ap, ◌∙◌}
 use Rattle.kt_types.specs.Table.{Table}
 use Rattle.kt_mem.specs.declared.steps.Act.{Act}

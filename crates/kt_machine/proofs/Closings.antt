@@ -1,13 +1,11 @@
 -- A machine's closing is the world's.
-use Rattle.std.specs.Prelude.{◌≡◌, ℕ, ◌+◌, ◌<◌, true, false, List, [], ◌∷◌, Option, None, Some, Result, Ok, Err, OnOk, is_none, option_and_then, slice_get, if◌then◌else◌, refl}
-use Rattle.std.proofs.Common.{sym, subst, ap, ◌∙◌}
+use Rattle.std.specs.Prelude.{◌≡◌, ℕ, ◌+◌, List, [], ◌∷◌, Option, None, Some, is_none, option_and_then, slice_get, if◌then◌else◌, refl}
+use Rattle.std.proofs.Common.{sym, ap, ◌∙◌}
 use Rattle.kt_mem.specs.declared.thread.Mode.TheVariants.{Updating}
 use Rattle.kt_tree.specs.Version.{Program}
-use Rattle.kt_meaning.specs.Steps.{Step}
 use Rattle.kt_code.specs.declared.private.Private.{Private}
 use Rattle.kt_pair.specs.Pair.{Pair}
-use Rattle.kt_world.specs.Job.{Job, version_at}
-use Rattle.kt_world.specs.Update.{closed_between, decided, is_lost, lost_point, new_point, next_point, point_of, refused, restarted, updated, updating_from}
+use Rattle.kt_world.specs.Update.{closed_between, decided, new_point, next_point, refused, updated, updating_from}
 use Rattle.kt_world.specs.World.{Engine, Live, Parked, Ended, Shared, Standing, Thread, World}
 use Rattle.kt_code.specs.Settling as settling
 use Rattle.kt_code.specs.declared.private.Head.{Head}
@@ -16,7 +14,7 @@ use Rattle.kt_machine.specs.declared.machine.Standing as declared
 use Rattle.kt_machine.specs.declared.machine.Standing.TheVariants as standing
 use Rattle.kt_machine.specs.Acts.{step_of}
 use Rattle.kt_machine.specs.Closing.{old_point, with_restart}
-use Rattle.kt_machine.specs.Engine.{code_engine, code_entry, code_settle, standing_of, thread_of, world_of}
+use Rattle.kt_machine.specs.Engine.{code_engine, code_entry, code_settle, standing_of, world_of}
 use Rattle.kt_machine.specs.Shared as machine
 use Rattle.kt_machine.specs.Shared.{shared_of}
 use Rattle.kt_machine.proofs.Heads.{IsStepAt, point-at}

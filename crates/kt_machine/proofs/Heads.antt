@@ -1,5 +1,5 @@
 -- What a step of code is, by its head.
-use Rattle.std.specs.Prelude.{◌≡◌, ℕ, suc, nat_le, Bool, true, false, IsTrue, List, [], ◌∷◌, length, Option, None, Some, Result, Ok, Err, slice_get, if◌then◌else◌, refl}
+use Rattle.std.specs.Prelude.{◌≡◌, ℕ, suc, nat_le, Bool, true, false, List, [], ◌∷◌, length, Option, None, Some, Result, Ok, Err, slice_get, if◌then◌else◌, refl}
 use Rattle.std.proofs.Common.{sym, subst, ap, ◌∙◌}
 use Rattle.kt_mem.specs.declared.memory.Value.{Value}
 use Rattle.kt_mem.specs.declared.memory.Value.TheVariants.{Num}
@@ -9,13 +9,13 @@ use Rattle.kt_mem.specs.declared.steps.Piece.{Piece}
 use Rattle.kt_mem.specs.declared.steps.Reply.{Reply}
 use Rattle.kt_mem.specs.declared.steps.Trap.{Trap}
 use Rattle.kt_mem.specs.Comparisons.{zero_test}
-use Rattle.kt_mem.specs.Memory.{Memory, waits}
+use Rattle.kt_mem.specs.Memory.{Memory}
 use Rattle.kt_tree.specs.declared.expr.Request.{Request}
 use Rattle.kt_tree.specs.declared.expr.Request.TheVariants as request
 use Rattle.kt_meaning.specs.Requests.{act_of, pieces, printed, takes_reply}
 use Rattle.kt_meaning.specs.Steps.{Step, Quiet, Acts, Traps, Ends}
 use Rattle.kt_code.specs.Code.{Code}
-use Rattle.kt_code.specs.Machine.{Here, on_top, on_two, on_list, tested, gives, goes, swaps, asks, calls, returns, main_returns, leaves, do_one, instr_step, frames_step}
+use Rattle.kt_code.specs.Machine.{Here, on_top, on_two, on_list, tested, gives, swaps, asks, calls, returns, main_returns, leaves, do_one, instr_step, frames_step}
 use Rattle.kt_code.specs.Requests.{untyped}
 use Rattle.kt_code.specs.Settling.{head_of}
 use Rattle.kt_code.specs.declared.frame.Frame.{Frame}

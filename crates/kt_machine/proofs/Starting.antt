@@ -3,7 +3,6 @@ use Rattle.std.specs.Prelude.{◌≡◌, ℕ, List, [], ◌∷◌, Option, None,
 use Rattle.std.proofs.Common.{sym, ap, ◌∙◌}
 use Rattle.kt_mem.specs.Memory.{Memory}
 use Rattle.kt_mem.specs.declared.thread.Mode.TheVariants.{Normal}
-use Rattle.kt_tree.specs.Version.{Program}
 use Rattle.kt_code.specs.Settling as settling
 use Rattle.kt_code.specs.declared.private.Head.{Head}
 use Rattle.kt_code.specs.declared.private.Private.{Private}

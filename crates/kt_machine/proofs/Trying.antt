@@ -1,7 +1,6 @@
 -- What a machine tries after an act is what the world tries.
-use Rattle.std.specs.Prelude.{◌≡◌, ℕ, List, [], ◌∷◌, Bool, true, false, Option, None, Some, is_none, Result, Ok, Err, OnOk, if◌then◌else◌}
+use Rattle.std.specs.Prelude.{◌≡◌, List, [], ◌∷◌, Bool, true, false, Option, None, is_none, if◌then◌else◌}
 use Rattle.std.proofs.Common.{sym, ap, ◌∙◌}
-use Rattle.kt_code.specs.declared.private.Private.{Private}
 use Rattle.kt_pair.specs.Pair.{Pair}
 use Rattle.kt_world.specs.declared.mark.End.{End}
 use Rattle.kt_world.specs.declared.mark.Mark.TheVariants as mark
@@ -9,7 +8,7 @@ use Rattle.kt_world.specs.declared.mark.Phase.{Phase}
 use Rattle.kt_world.specs.declared.mark.Phase.TheVariants.{Run, Others}
 use Rattle.kt_world.specs.Turn.{all_back, all_normal, on_shared, ongoing}
 use Rattle.kt_world.specs.Update.{marked}
-use Rattle.kt_world.specs.World.{Engine, Shared, Thread, World}
+use Rattle.kt_world.specs.World.{Shared, World}
 use Rattle.kt_machine.specs.declared.machine.Machine.{Machine}
 use Rattle.kt_machine.specs.Engine.{code_engine, thread_of, world_of}
 use Rattle.kt_machine.specs.Shared.{shared_of}

@@ -1,6 +1,6 @@
 -- Steps of a turn, one after another.
-use Rattle.std.specs.Prelude.{◌≡◌, ℕ, ◌+◌, List, [], ◌∷◌, Result, Ok, Err, OnOk}
-use Rattle.std.proofs.Common.{sym, subst, ap, ◌∙◌}
+use Rattle.std.specs.Prelude.{◌≡◌, Result, Ok, Err, OnOk}
+use Rattle.std.proofs.Common.{ap, ◌∙◌}
 
 module _ {W A E : Type 0} (r : Result A E) where
   pub two-steps : (f g : W → W) (w a n : W) → a ≡ f w → OnOk r (n ≡ g a) → OnOk r (n ≡ g (f w))

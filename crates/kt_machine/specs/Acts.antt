@@ -1,5 +1,5 @@
 -- What a machine does at its act, and what stays of it.
-use Rattle.std.specs.Prelude.{◌≡◌, List, ◌∷◌, Bool, false, slice_get}
+use Rattle.std.specs.Prelude.{◌≡◌, List, Bool, false, slice_get}
 use Rattle.kt_types.specs.Table.{Table}
 use Rattle.kt_mem.specs.declared.steps.Act.{Act}
 use Rattle.kt_mem.specs.declared.steps.Act.TheVariants as act

@@ -1,5 +1,5 @@
 -- The engine of the machine: threads run the code of the version in force. A machine as a world.
-use Rattle.std.specs.Prelude.{◌≡◌, false, ℕ, ◌<◌, List, [], ◌∷◌, length, map, Option, Some, None, slice_get}
+use Rattle.std.specs.Prelude.{◌≡◌, false, ℕ, List, [], ◌∷◌, map, Option, Some, None, slice_get}
 use Rattle.std.specs.List.{AllByRecursion}
 use Rattle.kt_types.specs.Table.{Table}
 use Rattle.kt_mem.specs.declared.steps.Act.TheVariants as act

@@ -65,12 +65,7 @@ impl Machine {
     }
 
     // The thread goes on after the reply; after a trap the run ends.
-    fn reply(
-        &mut self,
-        alloc: Global,
-        codes: &[Compiled],
-        reply: Reply,
-    ) -> Result<(), AllocError>
+    fn reply(&mut self, alloc: Global, codes: &[Compiled], reply: Reply) -> Result<(), AllocError>
         requires version { self.old.shared.version < length codes.now }
         requires live { self.old.standing ≡ Standing.Live }
         requires settled { IsSettled codes.now self.old }
@@ -170,7 +165,7 @@ impl Machine {
         requires act { self.old.head ≡ Head.Act Act.Automigrate }
         ensures world { OnOk result (world_of self.new ≡
             plain_turn.answered (code_engine codes.now) (world_of self.old) 0 (thread_of self.old)
-                (plain_turn.migrated self.old.private.mode (shared_of self.old.shared)) Reply.Done) }
+            (plain_turn.migrated self.old.private.mode (shared_of self.old.shared)) Reply.Done) }
         ensures settled { OnOk result (IsSettled codes.now self.new) }
         ensures place { OnOk result (KeepsPlace self.old self.new) }
     {

@@ -47,17 +47,14 @@ impl Machine {
         ensures version { OnOk result (self.new.shared.version < length codes.now) }
     {
         match (self.shared.ended(), self.shared.phase(), self.standing) {
-            (None, Phase::Asked, Standing::Parked | Standing::Ended) => self.close(alloc, job, codes),
+            (None, Phase::Asked, Standing::Parked | Standing::Ended) => self.close(
+                alloc, job, codes,
+            ),
             _ => Ok(()),
         }
     }
 
-    fn close(
-        &mut self,
-        alloc: Global,
-        job: &Job,
-        codes: &[Compiled],
-    ) -> Result<(), AllocError>
+    fn close(&mut self, alloc: Global, job: &Job, codes: &[Compiled]) -> Result<(), AllocError>
         requires codes { AreCodesOf (job_of job.now) codes.now }
         requires few { length codes.now ≤ 16 }
         requires version { self.old.shared.version < length codes.now }

@@ -226,11 +226,7 @@ impl Shared {
     }
 
     /// The update was made: this is the heap with which the new version begins, and these values are kept aside.
-    pub fn mark_updated(
-        &mut self,
-        heap: Heap,
-        kept: Vec<Option<Value>>,
-    ) -> Result<(), AllocError>
+    pub fn mark_updated(&mut self, heap: Heap, kept: Vec<Option<Value>>) -> Result<(), AllocError>
         requires version { self.old.version < 16 }
         requires literals { HasCharLiterals (memory heap) }
         requires few { vec_len kept ≤ 4294967296 }

@@ -1,5 +1,10 @@
 //! What is tried after an act, and before the first turn.
 
+ghost use Rattle.std.specs.Prelude.{◌≡◌};
+ghost use Rattle.kt_mem.specs.Memory.{waits};
+ghost use Rattle.kt_heap.specs.Heap.{memory};
+ghost use Rattle.kt_machine.specs.Acts.{waits_at};
+
 use crate::machine::{Machine, Standing};
 use kt_code::Head;
 use kt_heap::Heap;
@@ -9,11 +14,6 @@ use kt_types::Ty;
 use kt_world::job::Job;
 use kt_world::mark::Phase;
 use std::alloc::{AllocError, Global};
-
-ghost use Rattle.std.specs.Prelude.{◌≡◌};
-ghost use Rattle.kt_mem.specs.Memory.{waits};
-ghost use Rattle.kt_heap.specs.Heap.{memory};
-ghost use Rattle.kt_machine.specs.Acts.{waits_at};
 
 impl Machine {
     ghost use Rattle.std.specs.Prelude.{◌≡◌, ◌<◌, ◌≤◌, length, OnOk};

@@ -1,5 +1,4 @@
-use Rattle.std.proofs.Common.{◌≡◌, Some, sym, subst, ap, ◌∙◌, slice_get}
-use Rattle.kt_types.specs.Table.{Table}
+use Rattle.std.proofs.Common.{◌≡◌, sym, subst, ap, ◌∙◌, slice_get}
 use Rattle.kt_tree.specs.Version.{Program}
 use Rattle.kt_meaning.specs.Steps.{Step}
 use Rattle.kt_code.specs.declared.private.Private.{Private}

@@ -1,4 +1,4 @@
-use Rattle.std.proofs.Common.{◌≡◌, ◌<◌, ◌+◌, Some, arith, sym, subst, ap, ◌∙◌, slice_get, length}
+use Rattle.std.proofs.Common.{◌<◌, ◌+◌, Some, arith, sym, subst, ap, ◌∙◌, slice_get}
 use Rattle.kt_mem.specs.declared.thread.Mode.TheVariants.{Updating}
 use Rattle.kt_tree.specs.Version.{Program}
 use Rattle.kt_code.specs.Code.{Code}
