@@ -1,5 +1,5 @@
 -- The machine stands for the world of the turns that it has taken.
-use Rattle.std.specs.Prelude.{◌≡◌, ℕ, zero, suc, ◌+◌, ◌-◌, ◌<◌, ◌≤◌, ◌==◌, ◌^◌, List, [], ◌∷◌, length, map, Option, Some, None, Bool, true, false, ◌&&◌, ◌||◌, not, replicate, slice_get, refl}
+use Rattle.std.specs.Prelude.{◌≡◌, ℕ, zero, suc, ◌+◌, ◌-◌, ◌<◌, ◌≤◌, ◌==◌, List, length, Some, None, Bool, true, false, ◌||◌, replicate, refl}
 use Rattle.std.proofs.Common.{arith, sym, subst, ap, ◌∙◌, inl, inr}
 use Rattle.std.proofs.lemmas.Bool.{false≢true, and_parts}
 use Rattle.std.proofs.lemmas.Bool.Decides.{eqb_tells}
@@ -19,11 +19,11 @@ use Rattle.kt_machine.specs.declared.machine.Machine.{Machine}
 use Rattle.kt_machine.specs.declared.machine.Standing as declared
 use Rattle.kt_machine.specs.declared.machine.Standing.TheVariants as standing
 use Rattle.kt_machine.specs.Engine.{code_engine, standing_of, thread_of, world_of, AreCodesOf, IsReady, IsSettled}
-use Rattle.kt_machine.specs.Report.{HasRun, IsWellFormedJob}
+use Rattle.kt_machine.specs.Report.{HasRun}
 use Rattle.kt_machine.specs.Same.{IsSameWorld}
 use Rattle.kt_machine.specs.Shared.{shared_of}
 use Rattle.kt_machine.proofs.SameRuns.{first-same, turn-same, enabled-same, ready}
-use Rattle.kt_machine.proofs.UnderWay.{GoesOn, IsOpen, first-open, first-turns, turn-open, turn-turns, worlds-version}
+use Rattle.kt_machine.proofs.UnderWay.{IsOpen, first-open, first-turns, turn-open, turn-turns, worlds-version}
 
 -- the world after n turns of thread 0
 abbrev pub after : Job → ℕ → World tree.Thread

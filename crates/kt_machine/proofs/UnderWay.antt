@@ -1,14 +1,12 @@
 -- Worlds between turns: each turn counts, and where the run goes on, some thread may take the next one.
-use Rattle.std.specs.Prelude.{◌≡◌, ℕ, ◌+◌, ◌<◌, ◌==◌, nat_le, List, [], ◌∷◌, length, Option, Some, None, is_none, is_some, Bool, true, false, ◌&&◌, ◌||◌, not, if◌then◌else◌, slice_get, refl}
-use Rattle.std.proofs.Common.{arith, sym, subst, ap, ◌∙◌}
-use Rattle.std.proofs.lemmas.Bool.{false≢true}
+use Rattle.std.specs.Prelude.{◌≡◌, ℕ, ◌+◌, ◌<◌, ◌==◌, nat_le, List, [], ◌∷◌, length, Option, Some, None, is_none, is_some, Bool, true, false, ◌&&◌, if◌then◌else◌, slice_get, refl}
+use Rattle.std.proofs.Common.{sym, subst, ap, ◌∙◌}
 use Rattle.std.proofs.lemmas.Option.{none-some, slice_get_within}
 use Rattle.kt_types.specs.Table.{Table}
 use Rattle.kt_mem.specs.declared.steps.Act.{Act}
 use Rattle.kt_mem.specs.declared.steps.Act.TheVariants as act
 use Rattle.kt_mem.specs.declared.steps.Reply.{Reply}
 use Rattle.kt_mem.specs.declared.steps.Reply.TheVariants.{Done, Got, Trapped}
-use Rattle.kt_mem.specs.declared.steps.Trap.TheVariants as trap
 use Rattle.kt_mem.specs.declared.thread.Mode.{Mode}
 use Rattle.kt_mem.specs.declared.thread.Mode.TheVariants.{Normal, Updating}
 use Rattle.kt_tree.specs.Version.{Program}
