@@ -1,13 +1,14 @@
 -- The journal: the text of a list of turns and of the marks between them.
 use Rattle.std.specs.Prelude.{ℕ, ◌+◌, ◌-◌, ◌==◌, List, [], ◌∷◌, ◌++◌, codes, take, drop, if◌then◌else◌}
 use Rattle.std.specs.Fmt.{decimal, signed_decimal}
-use Rattle.kt_small.specs.declared.acts.Trap.TheVariants.{Overflow}
-use Rattle.kt_small_world.specs.declared.mark.Closed.{Closed}
-use Rattle.kt_small_world.specs.declared.mark.Closed.TheVariants as closed
-use Rattle.kt_small_world.specs.declared.mark.End.{End}
-use Rattle.kt_small_world.specs.declared.mark.End.TheVariants as end
-use Rattle.kt_small_world.specs.declared.mark.Mark.{Mark}
-use Rattle.kt_small_world.specs.declared.mark.Mark.TheVariants as mark
+use Rattle.kt_mem.specs.declared.steps.Trap.{Trap}
+use Rattle.kt_mem.specs.declared.steps.Trap.TheVariants as trap
+use Rattle.kt_world.specs.declared.mark.Closed.{Closed}
+use Rattle.kt_world.specs.declared.mark.Closed.TheVariants as closed
+use Rattle.kt_world.specs.declared.mark.End.{End}
+use Rattle.kt_world.specs.declared.mark.End.TheVariants as end
+use Rattle.kt_world.specs.declared.mark.Mark.{Mark}
+use Rattle.kt_world.specs.declared.mark.Mark.TheVariants as mark
 
 -- some turns of one thread in a row
 pub record Stretch : Type 0 where
@@ -38,9 +39,29 @@ abbrev pub closed_line : Closed → List ℕ
 closed_line (closed.Ok images) = codes " ok " ++ (decimal images ++ codes "\n")
 closed_line (closed.Point thread) = codes " refused point " ++ (decimal thread ++ codes "\n")
 
+-- the name of a trap
+abbrev pub trap_name : Trap → List ℕ
+trap_name trap.Overflow = codes "overflow"
+trap_name trap.Zero = codes "zero"
+trap_name trap.Range = codes "range"
+trap_name trap.Null = codes "null"
+trap_name trap.Dead = codes "dead"
+trap_name trap.Bounds = codes "bounds"
+trap_name trap.Uninit = codes "uninit"
+trap_name trap.Literal = codes "literal"
+trap_name trap.Free = codes "free"
+trap_name trap.Mutex = codes "mutex"
+trap_name trap.Thread = codes "thread"
+trap_name trap.Threads = codes "threads"
+trap_name trap.Size = codes "size"
+trap_name trap.Heap = codes "heap"
+trap_name trap.Depth = codes "depth"
+trap_name trap.Output = codes "output"
+
 abbrev pub end_line : End → List ℕ
 end_line (end.Main v) = codes "end main " ++ (signed_decimal v ++ codes "\n")
-end_line (end.Trap t Overflow) = codes "end trap " ++ (decimal t ++ codes " overflow\n")
+end_line (end.Trap t cause) = codes "end trap " ++ (decimal t ++ (codes " " ++ (trap_name cause ++ codes "\n")))
+end_line end.Stuck = codes "end stuck\n"
 end_line end.Budget = codes "end budget\n"
 
 abbrev pub mark_line : Mark → List ℕ

@@ -1,16 +1,11 @@
-pub mod Acts
 pub mod Answer
-pub mod Effects
-pub mod Engine
+pub mod Given
 pub mod Job
 pub mod Journal
 pub mod Names
 pub mod Order
 pub mod Outcome
 pub mod Prepared
-pub mod Report
 pub mod Run
-pub mod Runnable
-pub mod Small
 pub mod Status
 pub mod Text

@@ -1,5 +1,5 @@
 -- What the text of a file is: a version, or a fault at a place.
-use Rattle.std.specs.Prelude.{◌≡◌, ℕ, ◌≤◌, List, length, Result, Ok, Err, Some, None}
+use Rattle.std.specs.Prelude.{◌≡◌, ℕ, List, Result, Ok, Err}
 use Rattle.kt_lex.specs.declared.token.Token.{Token}
 use Rattle.kt_lex.specs.declared.token.LexFault.{LexFault}
 use Rattle.kt_lex.specs.declared.token.LexFault.TheVariants as lex
@@ -11,10 +11,8 @@ use Rattle.kt_names.specs.declared.fault.CheckFault.{CheckFault}
 use Rattle.kt_names.specs.declared.fault.CheckFault.TheVariants as check
 use Rattle.kt_check.specs.Files.{version_of}
 use Rattle.kt_tree.specs.Version.{Program}
-use Rattle.kt_small.specs.Tree.{Version}
 use Rattle.kt_play.specs.declared.status.Cause.{Cause}
 use Rattle.kt_play.specs.declared.status.Cause.TheVariants.{Byte, Unclosed, Literal, Directive, Syntax, TooDeep, Unknown, Twice, BadType, Incomplete, TooBig, Entry, Note, NoMain, Later}
-use Rattle.kt_play.specs.Small.{small_of}
 
 -- the bytes are the text of a file with this syntax tree
 pub record HasTree (bytes : List ℕ) (x : Tree) : Type 0 where
@@ -32,25 +30,13 @@ pub record IsTypedAs (bytes : List ℕ) (outcome : Result Program CheckFault) : 
 abbrev pub IsVersionText : List ℕ → Program → Type 0
 IsVersionText bytes p = IsTypedAs bytes (Ok p)
 
--- the bytes are the text of a version that runs so far, which is this one in the small form
-pub record IsProgramText (bytes : List ℕ) (v : Version) : Type 0 where
-  pub program : Program
-  pub text : IsVersionText bytes program
-  pub small : small_of program ≡ Some v
-
 -- the tokens of the file have a fault at a place
 pub record HasTokensWith (bytes : List ℕ) (P : List Token → Type 0) : Type 0 where
   pub tokens : List Token
   pub lexed : tokens_of bytes ≡ Ok tokens
   pub fault : P tokens
 
--- the bytes are the text of a version that doesn't run so far
-pub record IsLaterText (bytes : List ℕ) : Type 0 where
-  pub program : Program
-  pub text : IsVersionText bytes program
-  pub none : small_of program ≡ None
-
--- why a text is no version that runs
+-- why a text is no version
 abbrev pub IsFaultOf : List ℕ → Cause → Type 0
 IsFaultOf bytes (Byte at) = tokens_of bytes ≡ Err (lex.Byte at)
 IsFaultOf bytes (Unclosed at) = tokens_of bytes ≡ Err (lex.Unclosed at)
@@ -66,4 +52,4 @@ IsFaultOf bytes (TooBig at) = IsTypedAs bytes (Err (check.TooBig at))
 IsFaultOf bytes (Entry at) = IsTypedAs bytes (Err (check.Entry at))
 IsFaultOf bytes (Note at) = IsTypedAs bytes (Err (check.Note at))
 IsFaultOf bytes (NoMain at) = IsTypedAs bytes (Err (check.NoMain at))
-IsFaultOf bytes (Later at) = (at ≡ 0) × IsLaterText bytes
+IsFaultOf bytes (Later at) = ⊥

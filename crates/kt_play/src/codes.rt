@@ -1,22 +1,24 @@
 //! The codes of the versions of a job.
 
-ghost use Rattle.std.specs.Prelude.{◌≡◌, length, map, IfOk};
-ghost use Rattle.kt_small.specs.Tree.{version_of};
-ghost use Rattle.kt_play.specs.Acts.{DoTheSameActs};
+ghost use Rattle.std.specs.Prelude.{◌≡◌, map, IfOk};
+ghost use Rattle.std.specs.List.{AllByRecursion};
+ghost use Rattle.kt_machine.specs.Engine.{DoesActs};
 
-use kt_small_codegen::code::Code;
-use kt_small_codegen::generate::compile;
-use kt_small::tree::Program;
+use kt_codegen::compile;
+use kt_pair::{Compiled, compiled_law};
+use kt_tree::Version;
 use std::alloc::{AllocError, Global};
 
-/// The code of each version, in order: it does the acts that the version's tree does.
-pub fn compile_all(alloc: Global, versions: &[Program]) -> Result<Vec<Code>, AllocError>
-    ensures count { IfOk result (λ codes. length codes.items ≡ length versions.now) }
-    ensures same_acts { IfOk result (λ codes. DoTheSameActs (map version_of versions.now) codes.items) }
+/// Each version beside its code, in order: the code does the acts of the version's trees.
+pub fn compile_all(alloc: Global, versions: &[Version]) -> Result<Vec<Compiled>, AllocError>
+    ensures versions { IfOk result (λ codes. map (λ c. c.program) codes.items ≡ versions.now) }
+    ensures acts { IfOk result (λ codes. AllByRecursion DoesActs codes.items) }
 {
     let mut codes = Vec::new(alloc);
-    for program in versions {
-        codes.push(compile(alloc, program)?)?;
+    for version in versions {
+        let compiled = compile(alloc, version.copy()?)?;
+        compiled_law(&compiled);
+        codes.push(compiled)?;
     }
     Ok(codes)
 }

@@ -5,8 +5,8 @@ ghost use Rattle.std.specs.Fmt.{decimal};
 ghost use Rattle.kt_play.specs.Journal as spec;
 
 use itoa::Buffer;
-use kt_small::acts::Trap;
-use kt_small_world::mark::{Closed, End, Mark};
+use kt_mem::Trap;
+use kt_world::mark::{Closed, End, Mark};
 use std::alloc::{AllocError, Global};
 
 /// The journal of so many turns of thread 0 and of these marks.
@@ -112,15 +112,42 @@ fn push_end(text: &mut Vec<u8>, how: End) -> Result<(), AllocError>
             text.extend_from_slice(b"\n")?;
             Ok(())
         }
-        End::Trap(thread, Trap::Overflow) => push_numbered(
-            text,
-            b"end trap ",
-            thread,
-            b" overflow\n",
-        ),
+        End::Trap(thread, cause) => {
+            push_numbered(text, b"end trap ", thread, b" ")?;
+            text.extend_from_slice(trap_name(cause).as_bytes())?;
+            text.extend_from_slice(b"\n")?;
+            Ok(())
+        }
+        End::Stuck => {
+            text.extend_from_slice(b"end stuck\n")?;
+            Ok(())
+        }
         End::Budget => {
             text.extend_from_slice(b"end budget\n")?;
             Ok(())
         }
+    }
+}
+
+fn trap_name(trap: Trap) -> &'static str
+    ensures { result.now ≡ spec.trap_name trap }
+{
+    match trap {
+        Trap::Overflow => "overflow",
+        Trap::Zero => "zero",
+        Trap::Range => "range",
+        Trap::Null => "null",
+        Trap::Dead => "dead",
+        Trap::Bounds => "bounds",
+        Trap::Uninit => "uninit",
+        Trap::Literal => "literal",
+        Trap::Free => "free",
+        Trap::Mutex => "mutex",
+        Trap::Thread => "thread",
+        Trap::Threads => "threads",
+        Trap::Size => "size",
+        Trap::Heap => "heap",
+        Trap::Depth => "depth",
+        Trap::Output => "output",
     }
 }

@@ -19,7 +19,15 @@ pub fn refuse<J: Sink>(alloc: Global, refusal: Refusal, log: &mut J) -> Status
             Status::Words
         }
         Refusal::Read(Which::File(file)) => refuse_read(alloc, file, log),
+        Refusal::Read(Which::Input) => {
+            write_line(b"refuse read input\n", log);
+            Status::ReadFault(Which::Input)
+        }
         Refusal::Long(Which::File(file)) => refuse_long(alloc, file, log),
+        Refusal::Long(Which::Input) => {
+            write_line(b"refuse long input\n", log);
+            Status::TooLong(Which::Input)
+        }
         Refusal::File(file, cause) => refuse_file(alloc, file, cause, log),
         Refusal::Memory => Status::NoMemory,
     }

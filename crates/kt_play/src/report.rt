@@ -6,7 +6,7 @@ ghost use Rattle.kt_play.specs.Outcome.{IsLogged, IsWritten};
 
 use crate::status::Status;
 use kt_edge::{Sink, write_whole};
-use kt_small_world::mark::End;
+use kt_world::mark::End;
 
 /// Writes the output of a run that ended so, and after it the journal. After a failing write nothing more is written.
 pub fn write_both<O: Sink, J: Sink>(

@@ -3,14 +3,16 @@
 ghost use Rattle.std.specs.Prelude.{◌≡◌};
 ghost use Rattle.kt_play.specs.Status.{cause_name, cause_place, exit_of};
 
-use kt_small::acts::Trap;
-use kt_small_world::mark::End;
+use kt_mem::Trap;
+use kt_world::mark::End;
 
 /// What was to be read.
 #[derive(Clone, Copy, PartialEq, Eq, Debug)]
 pub enum Which {
     /// The file of that number among the words, counted from 1.
     File(u8),
+    /// The program's input.
+    Input,
 }
 
 /// Why a file is refused. The number is the place of the fault, in bytes.
@@ -105,6 +107,8 @@ pub enum Status {
     Trap { thread: u8, cause: Trap },
     /// The run ended by its budget of turns.
     Budget,
+    /// The run ended since nobody may take a turn.
+    Stuck,
     /// The words are no order.
     Words,
     /// This could not be read.
@@ -130,6 +134,7 @@ impl From<End> for Status {
             End::Main(value) => Status::Main(value),
             End::Trap(thread, cause) => Status::Trap { thread, cause },
             End::Budget => Status::Budget,
+            End::Stuck => Status::Stuck,
         }
     }
 }
@@ -148,5 +153,6 @@ pub fn exit_code(status: Status) -> u8
         Status::NoMemory => 7,
         Status::Trap { .. } => 10,
         Status::Budget => 11,
+        Status::Stuck => 12,
     }
 }

@@ -10,7 +10,7 @@ mod versions;
 use crate::play::play;
 use crate::status::{Cause, Status, Which};
 use kt_edge::{MemFiles, MemSink, MemSource};
-use kt_small::acts::Trap;
+use kt_mem::Trap;
 use std::alloc::{AllocError, Global};
 use std::test::Fail;
 
@@ -40,6 +40,9 @@ const NEW_GLOBAL: &str =
 
 const UPDATED: &str =
     "kit 1\nask 1\nturn 0 4\nclose 1 ok 0\nturn 0 4\nmain 1\nback 1\nturn 0 29\nend main 0\n";
+
+// It runs alone, and may not be updated so far.
+const LONG: &str = "long n; int main(){return 0;}";
 
 const APPEND_JOURNAL: &str = "kit 1\nturn 0 18\nend main 3\n";
 
@@ -87,10 +90,22 @@ fn one(alloc: Global, text: &str, fail_on: u64) -> Result<MemFiles, AllocError> 
     files(alloc, &[("one.c", text)], fail_on)
 }
 
-fn call(
+// An input in pieces of 1000 bytes, of whose reads the given one fails (0: none).
+fn source(alloc: Global, bytes: &[u8], fail_on: u64) -> Result<MemSource, AllocError> {
+    Ok(MemSource {
+        rest: bytes.to_vec(alloc)?,
+        piece: 1000,
+        fail_on: [fail_on].to_vec(alloc)?,
+        calls: 0,
+        faults: 0,
+    })
+}
+
+fn call_with(
     alloc: Global,
     words: &[&str],
     mut files: MemFiles,
+    mut input: MemSource,
     out: Device,
     log: Device,
 ) -> Result<Played, AllocError> {
@@ -98,13 +113,6 @@ fn call(
     for word in words {
         list.push(String::from_str(alloc, word)?)?;
     }
-    let mut input = MemSource {
-        rest: Vec::new(alloc),
-        piece: 1,
-        fail_on: Vec::new(alloc),
-        calls: 0,
-        faults: 0,
-    };
     let mut out = sink(alloc, out)?;
     let mut log = sink(alloc, log)?;
     let status = play(
@@ -121,6 +129,24 @@ fn call(
         log: log.taken.clone()?,
         faults: files.faults,
     })
+}
+
+fn call(
+    alloc: Global,
+    words: &[&str],
+    files: MemFiles,
+    out: Device,
+    log: Device,
+) -> Result<Played, AllocError> {
+    let input = source(alloc, b"", 0)?;
+    call_with(alloc, words, files, input, out, log)
+}
+
+// A run of one version on an input.
+fn run_with(alloc: Global, text: &str, input: &[u8]) -> Result<Played, AllocError> {
+    let files = one(alloc, text, 0)?;
+    let input = source(alloc, input, 0)?;
+    call_with(alloc, &["one.c"], files, input, STEADY, STEADY)
 }
 
 fn run(alloc: Global, text: &str) -> Result<Played, AllocError> {
@@ -224,11 +250,11 @@ fn each_cause_of_a_version_file(rt: HostRuntime) -> Result<(), Fail> {
 #[test]
 fn versions_that_do_not_run_so_far(rt: HostRuntime) -> Result<(), Fail> {
     for text in [
-        "int main(void){int x; return 0;}",
-        "long n; int main(void){return 0;}",
-        "int f(void){return 1;} int main(void){return 0;}",
-        "int n; int main(void){if(n){n=1;}else{n=2;} return 0;}",
-        "int main(void){printf(\"a\"); return 0;}",
+        "void t(int a){} int main(void){return ktthread_create(t,1);}",
+        "int main(void){return 0?ktthread_join(0):0;}",
+        "pthread_mutex_t m; int main(void){while(0)pthread_mutex_lock(&m); return 0;}",
+        "pthread_mutex_t m; int main(void){return pthread_mutex_unlock(&m);}",
+        "pthread_mutex_t m; int main(void){pthread_mutex_init(&m,NULL); return 0;}",
     ] {
         let played = run(rt.alloc(), text)?;
         let status = Status::Refused {
@@ -478,20 +504,16 @@ fn updates_that_end_early(rt: HostRuntime) -> Result<(), Fail> {
 
 #[test]
 fn the_first_file_outside_is_refused(rt: HostRuntime) -> Result<(), Fail> {
-    // Versions are judged before the rules between them.
+    // Versions are judged before what doesn't run so far is looked for.
     for (old, rules, new, file, cause) in [
         ("@", "y", "@", 1, Cause::Byte(0)),
         (FIRST, "y", "@", 3, Cause::Byte(0)),
         (FIRST, "", "@", 3, Cause::Byte(0)),
         (FIRST, "y", FIRST, 2, Cause::Later(0)),
         (FIRST, "// ", FIRST, 2, Cause::Later(0)),
-        (
-            FIRST,
-            "y",
-            "long n; int main(){return 0;}",
-            3,
-            Cause::Later(0),
-        ),
+        (LONG, "y", LONG, 1, Cause::Later(0)),
+        (FIRST, "y", LONG, 2, Cause::Later(0)),
+        (FIRST, " ", LONG, 3, Cause::Later(0)),
     ] {
         let texts = files(
             rt.alloc(),

@@ -1,4 +1,0 @@
-pub mod Agrees
-pub mod Patch
-pub mod Rows
-pub mod Stands
