@@ -2,6 +2,7 @@
 //! crates that stand below: grammar, syntax trees, typing, threads.
 
 mod grammar;
+mod programs;
 mod syntax;
 mod threads;
 mod typing;

@@ -1,6 +1,6 @@
-//! Small programs of the whole profile but other threads: each form of expression and statement, each built-in call of one thread,
-//! and each trap that such a thread meets. What they write, how they end and how many turns they take was counted by hand: each
-//! act is a turn, and so is the end (`docs/language.md`).
+//! Small programs of the whole profile but other threads: each form of expression and statement, each built-in call of one
+//! thread, and each trap that such a thread meets. What they write, how they end and how many turns they take was counted by
+//! hand: each act is a turn, and so is the end (`docs/language.md`).
 //!
 //! A row has the turns, the end, the input, the output and the program, with ` | ` between them. A newline of the output is
 //! written `/`.
@@ -163,7 +163,7 @@ const CALLS: &str = r#"
 4 | main 3 |  |  | int f(int a) E_NOTELOCALS {int x; return MIGRATE_LOCAL(x) + MIGRATE_LOCAL(a) + a;} int main(){return f(3);}
 "#;
 
-/// Traps of arithmetic and conversions: what is met before an act is the turn behind the acts so far.
+/// Traps of arithmetic and conversions. A trap that comes between two acts is a turn of its own; an act that traps is one alone.
 const NUMBER_TRAPS: &str = r#"
 1 | trap 0 overflow |  |  | int main(){int x = 2147483647; x = x + 1; return 0;}
 1 | trap 0 overflow |  |  | int main(){int x = -2147483647; return x - 2;}
@@ -257,8 +257,8 @@ fn rows(rt: &impl Abort, alloc: Global, table: &str) -> Result<(), Fail> {
         let played = run_with(alloc, program, input.as_bytes())?;
         let journal = format!(in alloc; "kit 1\nturn 0 {turns}\nend {end}\n")?;
         assert_eq!(rt; played.log.as_slice(), journal.as_bytes(), "of {program}");
-        let shown = shown(alloc, played.out.as_slice())?;
-        assert_eq!(rt; shown.as_slice(), output.as_bytes(), "of {program}");
+        let written = shown(alloc, played.out.as_slice())?;
+        assert_eq!(rt; written.as_slice(), output.as_bytes(), "of {program}");
     }
     Ok(())
 }
