@@ -1,21 +1,22 @@
--- From the files that were read to the job, or why there is none.
-use Rattle.std.specs.Prelude.{◌≡◌, ℕ, suc, ◌<◌, ◌≤◌, List, [], ◌∷◌, Option, Result, Ok, Err, IfOk, IfErr, length, slice_get, Some, refl}
+-- From the files and the input that were read to what the words name, or why it was not read.
+use Rattle.std.specs.Prelude.{◌≡◌, ℕ, ◌<◌, ◌≤◌, List, [], ◌∷◌, Option, Result, Ok, Err, IfOk, IfErr, length, slice_get, take, Some, None, refl}
 use Rattle.std.proofs.Common.{arith, sym, subst, ◌∙◌, ap, inl, inr}
 use Rattle.std.proofs.lemmas.List.{length-take, take_all}
-use Rattle.kt_small_world.specs.declared.job.Job.{Job}
-use Rattle.kt_small_world.specs.Plain.{job_of}
 use Rattle.kt_edge.specs.Count.{Rose}
 use Rattle.kt_edge.specs.FileMap.{FileMap, Holds, Lacks, StartsFile}
+use Rattle.kt_world.specs.declared.job.Job.{Job}
+use Rattle.kt_world.specs.Plain.{job_of}
 use Rattle.kt_play.specs.declared.refusal.Refusal.{Refusal}
 use Rattle.kt_play.specs.declared.refusal.Refusal.TheVariants.{Words, Read, Long, File, Memory}
 use Rattle.kt_play.specs.declared.status.Which.TheVariants as which
-use Rattle.kt_play.specs.Job.{HoldAll, IsShort, AreShort, IsJobOf, IsFirstLong}
-use Rattle.kt_small.specs.declared.tree.Program.{Program}
-use Rattle.kt_small.specs.Tree.{version_of}
-use Rattle.kt_tree.specs.Version.{Program as Typed}
-use Rattle.kt_play.specs.Prepared.{IsReadWhole, IsLong, IsReadCause, IsNoJob, IsNoVersion}
-use Rattle.kt_play.specs.Text.{IsVersionText, IsProgramText}
-use Rattle.kt_play.specs.Run.{HasJob, IsCauseFor}
+use Rattle.kt_play.specs.Given.{Given, HoldsInput}
+use Rattle.kt_play.specs.Job.{IsJobText}
+use Rattle.kt_play.specs.Prepared.{IsReadWhole, AreReadWhole, IsLong, IsReadCause, IsInputCause}
+use Rattle.kt_play.specs.Run.{HasJob, IsCauseFor, IsFilesCause, IsRestCause}
+
+-- what holds of an error holds of the result that is that error
+pub as_error : {X : Type 0} (r : Result X Refusal) (x y : Refusal) (P : Refusal → Type 0) → r ≡ Err x → x ≡ y → P y → IfErr r P
+as_error {X = X} r x y P e f h = subst (λ (s : Result X Refusal). IfErr s P) (sym e) (subst P (sym f) h)
 
 -- ---- measuring
 
@@ -48,43 +49,29 @@ measured_long told name items before now n (Ok text) s h = tt
 measured_long told name items before now n (Err refusal) s h =
     subst (λ (f : Refusal). IsReadCause f told name before now n) (sym h.0) (refl, read_long told name items s h.1)
 
--- ---- one file
+-- ---- the files
 
--- the bytes that were read, as those of a slice
-read_as : (told : Option FileMap) (name bytes items : List ℕ) → IsReadWhole told name items → bytes ≡ items → IsReadWhole told name bytes
-read_as told name bytes items w e = subst (λ (b : List ℕ). IsReadWhole told name b) (sym e) w
-
-pub found_one : (told : Option FileMap) (name bytes items : List ℕ) (r : Result Job Refusal) → IsReadWhole told name items → bytes ≡ items →
-    IfOk r (λ job. IsJobOf (bytes ∷ []) (job_of job)) → IfOk r (λ job. HasJob told (job_of job) (name ∷ []))
-found_one told name bytes items (Ok job) w e text =
-    let v = read_as told name bytes items w e in record { files = bytes ∷ []; holds = (v.0, tt); text = ((v.1, tt), text) }
-found_one told name bytes items (Err refusal) w e text = tt
-
-pub refused_one : (told : Option FileMap) (name bytes items : List ℕ) (before now : ℕ) (r : Result Job Refusal) → IsReadWhole told name items → bytes ≡ items →
-    IfErr r (λ refusal. IsNoJob refusal (bytes ∷ [])) → IfErr r (λ refusal. IsCauseFor refusal told before now (name ∷ []))
-refused_one told name bytes items before now (Ok job) w e h = tt
-refused_one told name bytes items before now (Err Words) w e h = h
-refused_one told name bytes items before now (Err (Read which)) w e h = absurd h
-refused_one told name bytes items before now (Err (Long which)) w e h = absurd h
-refused_one told name bytes items before now (Err (File n cause)) w e h =
-    let v = read_as told name bytes items w e in record { files = bytes ∷ []; holds = (v.0, tt); outside = ((v.1, tt), h) }
-refused_one told name bytes items before now (Err Memory) w e h = tt
+-- what was read of files that are told as before
+as_told : (told told' : Option FileMap) (name bytes : List ℕ) → told' ≡ told → IsReadWhole told' name bytes → IsReadWhole told name bytes
+as_told told told' name bytes same w = subst (λ (t : Option FileMap). IsReadWhole t name bytes) same w
 
 rose_earlier : (before mid now : ℕ) → before ≤ mid → Rose mid now → Rose before now
 rose_earlier before mid now h r = grind arith
 
 pub unread_first : (told : Option FileMap) (name : List ℕ) (others : List (List ℕ)) (before now : ℕ) (refusal : Refusal) → IsReadCause refusal told name before now 1 →
-    IsCauseFor refusal told before now (name ∷ others)
+    IsFilesCause refusal told before now (name ∷ others)
 unread_first told name others before now Words h = h
 unread_first told name others before now (Read (which.File m)) h = record { place = 0; number = h.0; name = name; named = refl; cause = h.1; files = []; holds = tt; short = tt }
+unread_first told name others before now (Read which.Input) h = h
 unread_first told name others before now (Long (which.File m)) h =
-    subst (λ (n : ℕ). IsCauseFor (Long (which.File n)) told before now (name ∷ others)) (sym h.0)
+    subst (λ (n : ℕ). IsFilesCause (Long (which.File n)) told before now (name ∷ others)) (sym h.0)
     (record { files = h.1.0 ∷ []; holds = (h.1.1, tt); long = h.1.2 })
-unread_first told name others before now (File m cause) h = absurd h
+unread_first told name others before now (Long which.Input) h = h
+unread_first told name others before now (File m cause) h = h
 unread_first told name others before now Memory h = tt
 
 pub unread_second : (told told' : Option FileMap) (m n bytes : List ℕ) (others : List (List ℕ)) (before mid now : ℕ) (refusal : Refusal) →
-    told' ≡ told → before ≤ mid → IsReadWhole told m bytes → IsReadCause refusal told' n mid now 2 → IsCauseFor refusal told before now (m ∷ n ∷ others)
+    told' ≡ told → before ≤ mid → IsReadWhole told m bytes → IsReadCause refusal told' n mid now 2 → IsFilesCause refusal told before now (m ∷ n ∷ others)
 unread_second told told' m n bytes others before mid now Words same h w c = c
 unread_second told told' m n bytes others before mid now (Read (which.File k)) same h w c = record {
   place = 1;
@@ -96,74 +83,98 @@ unread_second told told' m n bytes others before mid now (Read (which.File k)) s
   holds = (w.0, tt);
   short = (w.1, tt);
 }
+unread_second told told' m n bytes others before mid now (Read which.Input) same h w c = c
 unread_second told told' m n bytes others before mid now (Long (which.File k)) same h w c =
-    subst (λ (i : ℕ). IsCauseFor (Long (which.File i)) told before now (m ∷ n ∷ others)) (sym c.0)
+    subst (λ (i : ℕ). IsFilesCause (Long (which.File i)) told before now (m ∷ n ∷ others)) (sym c.0)
     (record { files = bytes ∷ c.1.0 ∷ []; holds = (w.0, (subst (λ (t : Option FileMap). Holds t n c.1.0) same c.1.1, tt)); long = (w.1, c.1.2) })
-unread_second told told' m n bytes others before mid now (File k cause) same h w c = absurd c
+unread_second told told' m n bytes others before mid now (Long which.Input) same h w c = c
+unread_second told told' m n bytes others before mid now (File k cause) same h w c = c
 unread_second told told' m n bytes others before mid now Memory same h w c = tt
 
 pub unread_third : (told told' told'' : Option FileMap) (m n o a b : List ℕ) (before mid now : ℕ) (refusal : Refusal) →
     told' ≡ told → told'' ≡ told → before ≤ mid → IsReadWhole told m a → IsReadWhole told' n b → IsReadCause refusal told'' o mid now 3 →
-    IsCauseFor refusal told before now (m ∷ n ∷ o ∷ [])
+    IsFilesCause refusal told before now (m ∷ n ∷ o ∷ [])
 unread_third told told' told'' m n o a b before mid now Words same same' h w v c = c
-unread_third told told' told'' m n o a b before mid now (Read (which.File k)) same same' h w v c = record {
-  place = 2;
-  number = c.0;
-  name = o;
-  named = refl;
-  cause = elim c.1 [ inl rose ↦ inl (rose_earlier before mid now h rose) | inr lacks ↦ inr (subst (λ (t : Option FileMap). Lacks t o) same' lacks) ];
-  files = a ∷ b ∷ [];
-  holds = (w.0, (subst (λ (t : Option FileMap). Holds t n b) same v.0, tt));
-  short = (w.1, (v.1, tt));
-}
+unread_third told told' told'' m n o a b before mid now (Read (which.File k)) same same' h w v c =
+    let v' = as_told told told' n b same v in
+    record {
+      place = 2;
+      number = c.0;
+      name = o;
+      named = refl;
+      cause = elim c.1 [ inl rose ↦ inl (rose_earlier before mid now h rose) | inr lacks ↦ inr (subst (λ (t : Option FileMap). Lacks t o) same' lacks) ];
+      files = a ∷ b ∷ [];
+      holds = (w.0, (v'.0, tt));
+      short = (w.1, (v'.1, tt));
+    }
+unread_third told told' told'' m n o a b before mid now (Read which.Input) same same' h w v c = c
 unread_third told told' told'' m n o a b before mid now (Long (which.File k)) same same' h w v c =
-    subst (λ (i : ℕ). IsCauseFor (Long (which.File i)) told before now (m ∷ n ∷ o ∷ [])) (sym c.0)
+    let v' = as_told told told' n b same v in
+    subst (λ (i : ℕ). IsFilesCause (Long (which.File i)) told before now (m ∷ n ∷ o ∷ [])) (sym c.0)
     (record {
       files = a ∷ b ∷ c.1.0 ∷ [];
-      holds = (w.0, (subst (λ (t : Option FileMap). Holds t n b) same v.0, (subst (λ (t : Option FileMap). Holds t o c.1.0) same' c.1.1, tt)));
-      long = (w.1, (v.1, c.1.2));
+      holds = (w.0, (v'.0, (subst (λ (t : Option FileMap). Holds t o c.1.0) same' c.1.1, tt)));
+      long = (w.1, (v'.1, c.1.2));
     })
-unread_third told told' told'' m n o a b before mid now (File k cause) same same' h w v c = absurd c
+unread_third told told' told'' m n o a b before mid now (Long which.Input) same same' h w v c = c
+unread_third told told' told'' m n o a b before mid now (File k cause) same same' h w v c = c
 unread_third told told' told'' m n o a b before mid now Memory same same' h w v c = tt
 
--- ---- three files
+-- ---- the files and the input
 
-pub found_three : (told : Option FileMap) (m n o a r b a' r' b' : List ℕ) (result : Result Job Refusal) → IsReadWhole told m a' → IsReadWhole told n r' →
-    IsReadWhole told o b' → a ≡ a' → r ≡ r' → b ≡ b' → IfOk result (λ job. IsJobOf (a ∷ (r ∷ (b ∷ []))) (job_of job)) →
-    IfOk result (λ job. HasJob told (job_of job) (m ∷ (n ∷ (o ∷ []))))
-found_three told m n o a r b a' r' b' (Ok job) f g h p q s text =
-    let x = read_as told m a a' f p in
-    let y = read_as told n r r' g q in
-    let z = read_as told o b b' h s in
-    record { files = a ∷ (r ∷ (b ∷ [])); holds = (x.0, (y.0, (z.0, tt))); text = ((x.1, (y.1, (z.1, tt))), text) }
-found_three told m n o a r b a' r' b' (Err refusal) f g h p q s text = tt
+pub has_job : (given : Given) (names files : List (List ℕ)) (r : Result Job Refusal) → AreReadWhole given.told names files →
+    IfOk r (λ job. HoldsInput given.left_before job.input) → IfOk r (λ job. IsJobText files job.input (job_of job)) →
+    IfOk r (λ job. HasJob given (job_of job) names)
+has_job given names files (Ok job) whole input text = record {
+  files = files;
+  input = job.input;
+  holds = whole.holds;
+  holds_input = input;
+  text = text;
+}
+has_job given names files (Err refusal) whole input text = tt
 
-pub refused_three : (told : Option FileMap) (m n o a r b a' r' b' : List ℕ) (before now : ℕ) (result : Result Job Refusal) → IsReadWhole told m a' →
-    IsReadWhole told n r' → IsReadWhole told o b' → a ≡ a' → r ≡ r' → b ≡ b' → IfErr result (λ refusal. IsNoJob refusal (a ∷ (r ∷ (b ∷ [])))) →
-    IfErr result (λ refusal. IsCauseFor refusal told before now (m ∷ (n ∷ (o ∷ []))))
-refused_three told m n o a r b a' r' b' before now (Ok job) f g h p q s not_job = tt
-refused_three told m n o a r b a' r' b' before now (Err Words) f g h p q s not_job = not_job
-refused_three told m n o a r b a' r' b' before now (Err (Read which)) f g h p q s not_job = absurd not_job
-refused_three told m n o a r b a' r' b' before now (Err (Long which)) f g h p q s not_job = absurd not_job
-refused_three told m n o a r b a' r' b' before now (Err (File k cause)) f g h p q s not_job =
-    let x = read_as told m a a' f p in
-    let y = read_as told n r r' g q in
-    let z = read_as told o b b' h s in
-    record { files = a ∷ (r ∷ (b ∷ [])); holds = (x.0, (y.0, (z.0, tt))); outside = ((x.1, (y.1, (z.1, tt))), not_job) }
-refused_three told m n o a r b a' r' b' before now (Err Memory) f g h p q s not_job = tt
+-- files that could not be read
+pub files_cause : (given : Given) (names : List (List ℕ)) (refusal : Refusal) →
+    IsFilesCause refusal given.told given.faults_before given.faults_after names → IsCauseFor refusal given names
+files_cause given names Words h = h
+files_cause given names (Read (which.File n)) h = h
+files_cause given names (Read which.Input) h = absurd h
+files_cause given names (Long (which.File n)) h = h
+files_cause given names (Long which.Input) h = absurd h
+files_cause given names (File n cause) h = absurd h
+files_cause given names Memory h = tt
 
--- ---- a version that runs
+-- an input that could not be read, and what is no job
+pub input_rest : (refusal : Refusal) (left : Option (List ℕ)) (before now : ℕ) (files : List (List ℕ)) →
+    IsInputCause refusal left before now → IsRestCause refusal left before now files
+input_rest Words left before now files h = h
+input_rest (Read (which.File n)) left before now files h = h
+input_rest (Read which.Input) left before now files h = h
+input_rest (Long (which.File n)) left before now files h = h
+input_rest (Long which.Input) left before now files h = h
+input_rest (File n cause) left before now files h = absurd h
+input_rest Memory left before now files h = tt
 
-pub program_at : (bytes : List ℕ) (p : Typed) (r : Result Program Refusal) → IsVersionText bytes p →
-    IfOk r (λ s. (b : List ℕ) → IsVersionText b p → IsProgramText b (version_of s)) → IfOk r (λ s. IsProgramText bytes (version_of s))
-program_at bytes p (Ok s) text h = h bytes text
-program_at bytes p (Err refusal) text h = tt
+rest_cause : (given : Given) (names files : List (List ℕ)) (refusal : Refusal) → AreReadWhole given.told names files →
+    IsRestCause refusal given.left_before given.input_faults_before given.input_faults_after files → IsCauseFor refusal given names
+rest_cause given names files Words whole h = h
+rest_cause given names files (Read (which.File n)) whole h = absurd h
+rest_cause given names files (Read which.Input) whole h = record { files = files; holds = whole.holds; short = whole.short; input = h }
+rest_cause given names files (Long (which.File n)) whole h = absurd h
+rest_cause given names files (Long which.Input) whole h = record { files = files; holds = whole.holds; short = whole.short; input = h }
+rest_cause given names files (File n cause) whole h = record {
+  files = files;
+  input = h.0;
+  holds = whole.holds;
+  holds_input = h.1;
+  short_input = h.2;
+  outside = (whole.short, h.3);
+}
+rest_cause given names files Memory whole h = tt
 
-pub refusal_at : (bytes : List ℕ) (n : ℕ) (p : Typed) (r : Result Program Refusal) → IsVersionText bytes p →
-    IfErr r (λ refusal. (b : List ℕ) → IsVersionText b p → IsNoVersion refusal b n) → IfErr r (λ refusal. IsNoVersion refusal bytes n)
-refusal_at bytes n p (Ok s) text h = tt
-refusal_at bytes n p (Err refusal) text h = h bytes text
-
--- what holds of an error holds of the result that is that error
-pub as_error : {X : Type 0} (r : Result X Refusal) (x y : Refusal) (P : Refusal → Type 0) → r ≡ Err x → x ≡ y → P y → IfErr r P
-as_error {X = X} r x y P e f h = subst (λ (s : Result X Refusal). IfErr s P) (sym e) (subst P (sym f) h)
+pub rest_causes : (given : Given) (names files : List (List ℕ)) (r : Result Job Refusal) → AreReadWhole given.told names files →
+    IfErr r (λ refusal. IsRestCause refusal given.left_before given.input_faults_before given.input_faults_after files) →
+    IfErr r (λ refusal. IsCauseFor refusal given names)
+rest_causes given names files (Ok job) whole h = tt
+rest_causes given names files (Err refusal) whole h = rest_cause given names files refusal whole h

@@ -1,14 +1,3 @@
-mod AnswerLemmas
-mod Compiled
-mod FaultLemmas
+mod CodeLemmas
 mod FileLemmas
-mod Forms
-mod JournalLemmas
-mod OutcomeLemmas
-mod Placed
-mod Rows
-mod RunLemmas
-mod Settled
-mod SmallLemmas
-mod TextLemmas
-mod UnderWay
+mod JobLemmas

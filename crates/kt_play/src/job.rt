@@ -1,7 +1,7 @@
 //! From texts and an input to the job that they are.
 
-ghost use Rattle.std.specs.Prelude.{◌≡◌, ◌≤◌, ℕ, Option, None, Some, [], ◌∷◌, length, true, IfOk, IfErr, MatchOption};
-ghost use Rattle.std.specs.List.{list_all};
+ghost use Rattle.std.specs.Prelude.{◌≡◌, ◌<◌, ◌≤◌, ℕ, Option, None, Some, [], ◌∷◌, length, true, IfOk, IfErr, MatchOption};
+ghost use Rattle.std.specs.List.{AllByRecursion, list_all};
 ghost use Rattle.kt_lex.specs.Bytes.{is_blank};
 ghost use Rattle.kt_stage.specs.Stage.{runs_alone, runs_updated};
 ghost use Rattle.kt_world.specs.Plain.{job_of};
@@ -62,6 +62,7 @@ fn job_alone(alloc: Global, version: Version, input: Text) -> Result<Job, Refusa
     ensures cause { IfErr result (λ refusal. refusal ≡ Refusal.Memory) }
 {
     version_law(&version);
+    bytes_law(input.as_bytes());
     let mut versions = Versions::new(alloc);
     versions.push(version)?;
     Ok(Job {
@@ -71,6 +72,11 @@ fn job_alone(alloc: Global, version: Version, input: Text) -> Result<Job, Refusa
         input,
     })
 }
+
+// Each element of bytes is below 256.
+fn bytes_law(bytes: &[u8])
+    ensures { AllByRecursion (λ b. b < 256) bytes.now }
+{}
 
 fn two_versions(
     alloc: Global,
@@ -116,6 +122,7 @@ fn job_updated(alloc: Global, old: Version, new: Version, input: Text) -> Result
 {
     version_law(&old);
     version_law(&new);
+    bytes_law(input.as_bytes());
     let mut versions = Versions::new(alloc);
     versions.push(old)?;
     versions.push(new)?;

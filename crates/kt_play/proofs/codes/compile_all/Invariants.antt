@@ -1,10 +1,10 @@
-use Rattle.std.proofs.Common.{◌≡◌, length, map, take}
-use Rattle.kt_small.specs.Tree.{version_of}
-use Rattle.kt_play.specs.Acts.{DoTheSameActs}
+use Rattle.std.specs.List.{AllByRecursion}
+use Rattle.std.proofs.Common.{◌≡◌, map, take}
+use Rattle.kt_machine.specs.Engine.{DoesActs}
 use Rattle.kt_play.proofs.codes.compile_all.Given as goal
 
-abbrev pub invariant-loop-program : goal.invariant-loop-program
-invariant-loop-program l = record {
-  count : length l.codes.items ≡ l.program-index;
-  same_acts : DoTheSameActs (map version_of (take l.program-index l.versions)) l.codes.items;
+abbrev pub invariant-loop-version : goal.invariant-loop-version
+invariant-loop-version l = record {
+  versions : map (λ c. c.program) l.codes.items ≡ take l.version-index l.versions;
+  acts : AllByRecursion DoesActs l.codes.items;
 }

@@ -1,7 +1,7 @@
 use Rattle.std.proofs.Common.{◌∙◌, arith}
 use Rattle.std.proofs.lemmas.Result.{err_from_is_err_and}
 use Rattle.kt_play.proofs.FileLemmas.{as_error, unread_first, unread_second, unread_third}
-use Rattle.kt_play.proofs.prepare.read_texts.Goals as goal
+use Rattle.kt_play.proofs.gather.read_three.Goals as goal
 
 pub returns-in_err-first-clause-cause : goal.returns-in_err-first-clause-cause
 returns-in_err-first-clause-cause g c =

@@ -1,5 +1,5 @@
 use Rattle.kt_play.proofs.FileLemmas.{measured_whole, measured_long}
-use Rattle.kt_play.proofs.prepare.read.Goals as goal
+use Rattle.kt_play.proofs.gather.read.Goals as goal
 
 pub returns-in-Ok-clause-whole : goal.returns-in-Ok-clause-whole
 returns-in-Ok-clause-whole g c =
