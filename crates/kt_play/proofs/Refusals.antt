@@ -70,8 +70,8 @@ pub words : (call : Call) (u l : Type 0) (s : Status) → IsAnswer call u l s �
 words call u l s a = (words_only call u l s a, words_all call u l s a)
 
 unread_as : (call : Call) (which : Which) → IsCause (refusal.Read which) call.words call.given → IsUnread call.words call.given which
-unread_as call (File n) c = record { names = c.names; order = c.order; fact = c.fact }
-unread_as call Input c = record { names = c.names; order = c.order; fact = c.fact }
+unread_as call (File n) c = c
+unread_as call Input c = c
 
 pub unread : (call : Call) (u l : Type 0) (s : Status) → IsAnswer call u l s → (which : Which) → s ≡ ReadFault which →
     IsUnread call.words call.given which
@@ -80,8 +80,8 @@ unread call u l s (inr t) which e =
     unread_as call which (cause_as call u l s t (refusal.Read which) (subst (λ (k : Status). IsRefused k t.why call.log l) e t.refused).0)
 
 long_as : (call : Call) (which : Which) → IsCause (refusal.Long which) call.words call.given → IsTooLong call.words call.given which
-long_as call (File n) c = record { names = c.names; order = c.order; fact = c.fact }
-long_as call Input c = record { names = c.names; order = c.order; fact = c.fact }
+long_as call (File n) c = c
+long_as call Input c = c
 
 pub too_long : (call : Call) (u l : Type 0) (s : Status) → IsAnswer call u l s → (which : Which) → s ≡ TooLong which →
     IsTooLong call.words call.given which
@@ -93,5 +93,4 @@ pub refused : (call : Call) (u l : Type 0) (s : Status) → IsAnswer call u l s 
     IsRefusedFile call.words call.given file cause
 refused call u l s (inl r) file cause e = absurd (subst (λ (k : Status). IsOutcome k r.job call.out call.log u l) e r.outcome)
 refused call u l s (inr t) file cause e =
-    let c = cause_as call u l s t (refusal.File file cause) (subst (λ (k : Status). IsRefused k t.why call.log l) e t.refused).0 in
-    record { names = c.names; order = c.order; fact = c.fact }
+    cause_as call u l s t (refusal.File file cause) (subst (λ (k : Status). IsRefused k t.why call.log l) e t.refused).0
