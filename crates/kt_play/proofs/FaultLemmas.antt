@@ -148,7 +148,7 @@ one_deep n symbols i j s t = elim (cases_lt (length s.before) (length t.before))
 
 -- ---- one fault
 
--- the cause of a fault of tokens, and of an outcome of typing that doesn't run
+-- the cause of a fault of tokens, and of a fault of types; want of memory is none of a text
 abbrev of_lex : LexFault → Cause
 of_lex (lex.Byte at) = Byte at
 of_lex (lex.Unclosed at) = Unclosed at
@@ -156,17 +156,16 @@ of_lex (lex.Literal at) = Literal at
 of_lex (lex.Directive at) = Directive at
 of_lex lex.NoMemory = Later 0
 
-abbrev of_outcome : Result Program CheckFault → Cause
-of_outcome (Ok p) = Later 0
-of_outcome (Err (check.Unknown at)) = Unknown at
-of_outcome (Err (check.Twice at)) = Twice at
-of_outcome (Err (check.BadType at)) = BadType at
-of_outcome (Err (check.Incomplete at)) = Incomplete at
-of_outcome (Err (check.TooBig at)) = TooBig at
-of_outcome (Err (check.Entry at)) = Entry at
-of_outcome (Err (check.Note at)) = Note at
-of_outcome (Err (check.NoMain at)) = NoMain at
-of_outcome (Err check.NoMemory) = Later 0
+abbrev of_check : CheckFault → Cause
+of_check (check.Unknown at) = Unknown at
+of_check (check.Twice at) = Twice at
+of_check (check.BadType at) = BadType at
+of_check (check.Incomplete at) = Incomplete at
+of_check (check.TooBig at) = TooBig at
+of_check (check.Entry at) = Entry at
+of_check (check.Note at) = Note at
+of_check (check.NoMain at) = NoMain at
+of_check check.NoMemory = Later 0
 
 -- where a text has its fault: in its tokens, in its syntax, or in its types
 abbrev InTokens : List ℕ → Cause → Type 0
@@ -179,7 +178,7 @@ abbrev InDepth : List ℕ → Cause → Type 0
 InDepth bytes c = (at : ℕ) × HasTokensWith bytes (λ tokens. IsTooDeepAt bytes tokens at) × (c ≡ TooDeep at)
 
 abbrev InTypes : List ℕ → Cause → Type 0
-InTypes bytes c = (o : Result Program CheckFault) × IsTypedAs bytes o × (c ≡ of_outcome o)
+InTypes bytes c = (f : CheckFault) × IsTypedAs bytes (Err f) × (c ≡ of_check f)
 
 abbrev IsFaulty : List ℕ → Cause → Type 0
 IsFaulty bytes c = InTokens bytes c ⊎ (InSyntax bytes c ⊎ (InDepth bytes c ⊎ InTypes bytes c))
@@ -187,8 +186,8 @@ IsFaulty bytes c = InTokens bytes c ⊎ (InSyntax bytes c ⊎ (InDepth bytes c �
 in_tokens : (bytes : List ℕ) (f : LexFault) → tokens_of bytes ≡ Err f → IsFaulty bytes (of_lex f)
 in_tokens bytes f e = inl (f, e, refl)
 
-in_types : (bytes : List ℕ) (o : Result Program CheckFault) → IsTypedAs bytes o → IsFaulty bytes (of_outcome o)
-in_types bytes o t = inr (inr (inr (o, t, refl)))
+in_types : (bytes : List ℕ) (f : CheckFault) → IsTypedAs bytes (Err f) → IsFaulty bytes (of_check f)
+in_types bytes f t = inr (inr (inr (f, t, refl)))
 
 faulty : (bytes : List ℕ) (c : Cause) → IsFaultOf bytes c → IsFaulty bytes c
 faulty bytes (Byte at) f = in_tokens bytes _ f
@@ -205,13 +204,16 @@ faulty bytes (TooBig at) f = in_types bytes _ f
 faulty bytes (Entry at) f = in_types bytes _ f
 faulty bytes (Note at) f = in_types bytes _ f
 faulty bytes (NoMain at) f = in_types bytes _ f
-faulty bytes (Later at) f = inr (inr (inr (Ok f.1.program, f.1.text, ap Later f.0)))
+faulty bytes (Later at) f = absurd f
 
 no_lexing : (bytes : List ℕ) (f : LexFault) (tokens : List Token) → tokens_of bytes ≡ Err f → tokens_of bytes ≡ Ok tokens → ⊥
 no_lexing bytes f tokens e t = cc
 
 same_lexing : (bytes : List ℕ) (f g : LexFault) → tokens_of bytes ≡ Err f → tokens_of bytes ≡ Err g → f ≡ g
 same_lexing bytes f g s t = cc
+
+same_typing : OneTree → (bytes : List ℕ) (f g : CheckFault) → IsTypedAs bytes (Err f) → IsTypedAs bytes (Err g) → f ≡ g
+same_typing one bytes f g s t = let e = one-outcome one bytes (Err f) (Err g) s t in cc
 
 same_break : (bytes : List ℕ) (i j : ℕ) → HasTokensWith bytes (λ tokens. BreaksOff bytes tokens i) → HasTokensWith bytes (λ tokens. BreaksOff bytes tokens j) → i ≡ j
 same_break bytes i j s t =
@@ -247,15 +249,15 @@ one_of one bytes c d (inl x) (inr (inr (inr y))) = absurd (no_lexing bytes x.0 y
 one_of one bytes c d (inr (inl x)) (inl y) = absurd (no_lexing bytes y.0 x.1.tokens y.1 x.1.lexed)
 one_of one bytes c d (inr (inl x)) (inr (inl y)) = x.2 ∙ ap Syntax (same_break bytes x.0 y.0 x.1 y.1) ∙ sym y.2
 one_of one bytes c d (inr (inl x)) (inr (inr (inl y))) = absurd (break_or_depth bytes x.0 y.0 x.1 y.1)
-one_of one bytes c d (inr (inl x)) (inr (inr (inr y))) = absurd (break_or_types bytes x.0 y.0 x.1 y.1)
+one_of one bytes c d (inr (inl x)) (inr (inr (inr y))) = absurd (break_or_types bytes x.0 _ x.1 y.1)
 one_of one bytes c d (inr (inr (inl x))) (inl y) = absurd (no_lexing bytes y.0 x.1.tokens y.1 x.1.lexed)
 one_of one bytes c d (inr (inr (inl x))) (inr (inl y)) = absurd (break_or_depth bytes y.0 x.0 y.1 x.1)
 one_of one bytes c d (inr (inr (inl x))) (inr (inr (inl y))) = x.2 ∙ ap TooDeep (same_depth bytes x.0 y.0 x.1 y.1) ∙ sym y.2
-one_of one bytes c d (inr (inr (inl x))) (inr (inr (inr y))) = absurd (depth_or_types bytes x.0 y.0 x.1 y.1)
+one_of one bytes c d (inr (inr (inl x))) (inr (inr (inr y))) = absurd (depth_or_types bytes x.0 _ x.1 y.1)
 one_of one bytes c d (inr (inr (inr x))) (inl y) = absurd (no_lexing bytes y.0 x.1.parsed.tokens y.1 x.1.parsed.lexed)
-one_of one bytes c d (inr (inr (inr x))) (inr (inl y)) = absurd (break_or_types bytes y.0 x.0 y.1 x.1)
-one_of one bytes c d (inr (inr (inr x))) (inr (inr (inl y))) = absurd (depth_or_types bytes y.0 x.0 y.1 x.1)
-one_of one bytes c d (inr (inr (inr x))) (inr (inr (inr y))) = x.2 ∙ ap of_outcome (one-outcome one bytes x.0 y.0 x.1 y.1) ∙ sym y.2
+one_of one bytes c d (inr (inr (inr x))) (inr (inl y)) = absurd (break_or_types bytes y.0 _ y.1 x.1)
+one_of one bytes c d (inr (inr (inr x))) (inr (inr (inl y))) = absurd (depth_or_types bytes y.0 _ y.1 x.1)
+one_of one bytes c d (inr (inr (inr x))) (inr (inr (inr y))) = x.2 ∙ ap of_check (same_typing one bytes x.0 y.0 x.1 y.1) ∙ sym y.2
 
 -- a text has at most one fault
 pub one_fault : OneTree → (bytes : List ℕ) (c d : Cause) → IsFaultOf bytes c → IsFaultOf bytes d → c ≡ d

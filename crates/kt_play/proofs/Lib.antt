@@ -1,3 +1,13 @@
 mod CodeLemmas
+mod Completeness
+mod FaultLemmas
 mod FileLemmas
+mod Headline
 mod JobLemmas
+mod JournalLemmas
+mod OneJob
+mod OutcomeLemmas
+mod Reading
+mod Refusals
+mod TextLemmas
+mod ToldLemmas

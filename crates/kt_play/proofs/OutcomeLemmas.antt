@@ -2,14 +2,14 @@
 use Rattle.std.specs.Prelude.{◌≡◌, ℕ, List, replicate}
 use Rattle.std.proofs.Common.{ap, subst}
 use Rattle.kt_edge.specs.Writes.{Writes}
-use Rattle.kt_small_world.specs.declared.mark.End.{End}
+use Rattle.kt_world.specs.declared.mark.End.{End}
 use Rattle.kt_play.specs.declared.status.Status.{Status}
-use Rattle.kt_play.specs.declared.status.Status.TheVariants.{Main, Trap, Budget, Words, ReadFault, TooLong, Refused, WriteFault, NoMemory}
-use Rattle.kt_small_world.specs.declared.mark.Mark.{Mark}
-use Rattle.kt_small_world.specs.Job.{Job}
+use Rattle.kt_play.specs.declared.status.Status.TheVariants.{Main, Trap, Budget, Stuck, Words, ReadFault, TooLong, Refused, WriteFault, NoMemory}
+use Rattle.kt_world.specs.declared.mark.Mark.{Mark}
+use Rattle.kt_world.specs.Job.{Job}
 use Rattle.kt_play.specs.Journal.{journal_of}
 use Rattle.kt_play.specs.Outcome.{IsWritten}
-use Rattle.kt_play.specs.Report.{HasRun}
+use Rattle.kt_machine.specs.Report.{HasRun}
 use Rattle.kt_play.specs.Run.{IsRun, IsWhole, IsOutcome}
 use Rattle.kt_edge.specs.Writes.{Takes}
 
@@ -41,6 +41,7 @@ pub outcome : (answer : Status) (job : Job) (turns : ℕ) (how : End) (output : 
 outcome (Main v) job turns how output marks out log u l r w = whole job turns how _ output marks out log r w
 outcome (Trap t cause) job turns how output marks out log u l r w = whole job turns how _ output marks out log r w
 outcome Budget job turns how output marks out log u l r w = whole job turns how _ output marks out log r w
+outcome Stuck job turns how output marks out log u l r w = whole job turns how _ output marks out log r w
 outcome WriteFault job turns how output marks out log u l r w = record {
   how = how;
   turns = replicate turns 0;

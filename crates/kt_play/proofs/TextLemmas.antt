@@ -1,5 +1,5 @@
 -- A text is that of at most one version, and then has no fault.
-use Rattle.std.specs.Prelude.{◌≡◌, ℕ, ◌<◌, ◌≤◌, List, [], ◌∷◌, ◌++◌, Result, Ok, Err, Some, None, length, refl}
+use Rattle.std.specs.Prelude.{◌≡◌, ℕ, ◌<◌, ◌≤◌, List, [], ◌∷◌, ◌++◌, Result, Ok, Err, length, refl}
 use Rattle.std.proofs.Common.{inl, inr, sym, subst, ap, ◌∙◌, arith, append_assoc, append-nil}
 use Rattle.kt_lex.specs.declared.token.Token.{Token}
 use Rattle.kt_lex.specs.Tokens.{tokens_of}
@@ -14,12 +14,10 @@ use Rattle.kt_syntax.specs.Tree.{Tree}
 use Rattle.kt_names.specs.declared.fault.CheckFault.{CheckFault}
 use Rattle.kt_check.specs.Files.{version_of}
 use Rattle.kt_tree.specs.Version.{Program}
-use Rattle.kt_small.specs.Tree.{Version}
 use Rattle.kt_play.specs.declared.status.Cause.{Cause}
 use Rattle.kt_play.specs.declared.status.Cause.TheVariants.{Byte, Unclosed, Literal, Directive, Syntax, TooDeep, Unknown, Twice, BadType, Incomplete, TooBig, Entry, Note, NoMain, Later}
-use Rattle.kt_play.specs.Job.{HasProgramText}
-use Rattle.kt_play.specs.Text.{HasTree, IsTypedAs, IsVersionText, IsProgramText, IsFaultOf, HasTokensWith}
-use Rattle.kt_play.specs.Small.{small_of}
+use Rattle.kt_play.specs.Job.{HasVersion}
+use Rattle.kt_play.specs.Text.{HasTree, IsTypedAs, IsVersionText, IsFaultOf, HasTokensWith}
 
 -- ---- one tree, one version
 
@@ -42,11 +40,8 @@ pub one-outcome : OneTree → (bytes : List ℕ) (a b : Result Program CheckFaul
 one-outcome one bytes a b s t =
     let e = one-tree one bytes s.tree t.tree s.parsed t.parsed in sym s.typed ∙ ap version_of e ∙ t.typed
 
-pub IsProgramText-unique : OneTree → (bytes : List ℕ) (v w : Version) → IsProgramText bytes v → IsProgramText bytes w → v ≡ w
-IsProgramText-unique one bytes v w s t =
-    let e = one-outcome one bytes (Ok s.program) (Ok t.program) s.text t.text in
-    let p : s.program ≡ t.program = cc in
-    let a = s.small in let b = t.small in cc
+pub IsVersionText-unique : OneTree → (bytes : List ℕ) (v w : Program) → IsVersionText bytes v → IsVersionText bytes w → v ≡ w
+IsVersionText-unique one bytes v w s t = let e = one-outcome one bytes (Ok v) (Ok w) s t in cc
 
 -- ---- no fault
 
@@ -120,23 +115,20 @@ no_tokens bytes x t P f none =
 other_outcome : OneTree → (bytes : List ℕ) (p : Program) (f : CheckFault) → IsTypedAs bytes (Ok p) → IsTypedAs bytes (Err f) → ⊥
 other_outcome one bytes p f s t = let e = one-outcome one bytes (Ok p) (Err f) s t in cc
 
--- a text of a version that runs has no fault
-pub fault-none : OneTree → (bytes : List ℕ) (cause : Cause) → IsFaultOf bytes cause → HasProgramText bytes → ⊥
-fault-none one bytes (Byte at) f p = let e = p.1.text.parsed.lexed in cc
-fault-none one bytes (Unclosed at) f p = let e = p.1.text.parsed.lexed in cc
-fault-none one bytes (Literal at) f p = let e = p.1.text.parsed.lexed in cc
-fault-none one bytes (Directive at) f p = let e = p.1.text.parsed.lexed in cc
-fault-none one bytes (Syntax at) f p = no_tokens bytes p.1.text.tree p.1.text.parsed _ f (λ tokens b t. broken-none bytes tokens at p.1.text.tree b t)
-fault-none one bytes (TooDeep at) f p = no_tokens bytes p.1.text.tree p.1.text.parsed _ f (λ tokens b t. deep-none bytes tokens at p.1.text.tree b t)
-fault-none one bytes (Unknown at) f p = other_outcome one bytes _ _ p.1.text f
-fault-none one bytes (Twice at) f p = other_outcome one bytes _ _ p.1.text f
-fault-none one bytes (BadType at) f p = other_outcome one bytes _ _ p.1.text f
-fault-none one bytes (Incomplete at) f p = other_outcome one bytes _ _ p.1.text f
-fault-none one bytes (TooBig at) f p = other_outcome one bytes _ _ p.1.text f
-fault-none one bytes (Entry at) f p = other_outcome one bytes _ _ p.1.text f
-fault-none one bytes (Note at) f p = other_outcome one bytes _ _ p.1.text f
-fault-none one bytes (NoMain at) f p = other_outcome one bytes _ _ p.1.text f
-fault-none one bytes (Later at) f p =
-    let e = one-outcome one bytes (Ok p.1.program) (Ok f.1.program) p.1.text f.1.text in
-    let same : p.1.program ≡ f.1.program = cc in
-    let a = p.1.small in let b = f.1.none in cc
+-- the text of a version has no fault
+pub fault-none : OneTree → (bytes : List ℕ) (cause : Cause) → IsFaultOf bytes cause → HasVersion bytes → ⊥
+fault-none one bytes (Byte at) f p = let e = p.1.parsed.lexed in cc
+fault-none one bytes (Unclosed at) f p = let e = p.1.parsed.lexed in cc
+fault-none one bytes (Literal at) f p = let e = p.1.parsed.lexed in cc
+fault-none one bytes (Directive at) f p = let e = p.1.parsed.lexed in cc
+fault-none one bytes (Syntax at) f p = no_tokens bytes p.1.tree p.1.parsed _ f (λ tokens b t. broken-none bytes tokens at p.1.tree b t)
+fault-none one bytes (TooDeep at) f p = no_tokens bytes p.1.tree p.1.parsed _ f (λ tokens b t. deep-none bytes tokens at p.1.tree b t)
+fault-none one bytes (Unknown at) f p = other_outcome one bytes p.0 _ p.1 f
+fault-none one bytes (Twice at) f p = other_outcome one bytes p.0 _ p.1 f
+fault-none one bytes (BadType at) f p = other_outcome one bytes p.0 _ p.1 f
+fault-none one bytes (Incomplete at) f p = other_outcome one bytes p.0 _ p.1 f
+fault-none one bytes (TooBig at) f p = other_outcome one bytes p.0 _ p.1 f
+fault-none one bytes (Entry at) f p = other_outcome one bytes p.0 _ p.1 f
+fault-none one bytes (Note at) f p = other_outcome one bytes p.0 _ p.1 f
+fault-none one bytes (NoMain at) f p = other_outcome one bytes p.0 _ p.1 f
+fault-none one bytes (Later at) f p = f

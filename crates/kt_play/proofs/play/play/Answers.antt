@@ -1,5 +1,7 @@
-use Rattle.std.proofs.Common.{refl}
-use Rattle.kt_play.proofs.AnswerLemmas as promise
+use Rattle.kt_play.proofs.Completeness as told
+use Rattle.kt_play.proofs.Headline as run
+use Rattle.kt_play.proofs.Reading as reading
+use Rattle.kt_play.proofs.Refusals as refusal
 use Rattle.kt_play.proofs.play.play.Goals as goal
 
 pub returns : goal.returns
@@ -7,18 +9,20 @@ returns g c =
     let a = c.respond.ensures.answer in
     let one = c.file_laws.ensures.one_tree in
     record {
-      headline = promise.headline _ _ _ _ a;
-      complete = promise.complete one _ _ _ _ a;
-      words = promise.words _ _ _ _ a;
-      unread = promise.unread _ _ _ _ a;
-      missing = promise.missing _ _ _ _ a;
-      too_long = promise.too_long _ _ _ _ a;
-      long = promise.long _ _ _ _ a;
-      refused = promise.refused _ _ _ _ a;
-      outside = promise.outside one _ _ _ _ a;
-      line = promise.line _ _ _ _ a;
-      no_memory = promise.no_memory _ _ _ _ a;
-      write_fault = promise.write_fault _ _ _ _ a;
+      headline = run.headline _ _ _ _ a;
+      complete = told.complete one _ _ _ _ a;
+      words = refusal.words _ _ _ _ a;
+      unread = refusal.unread _ _ _ _ a;
+      missing = reading.missing _ _ _ _ a;
+      too_long = refusal.too_long _ _ _ _ a;
+      long = reading.long _ _ _ _ a;
+      long_input = told.long_input _ _ _ _ a;
+      refused = refusal.refused _ _ _ _ a;
+      outside = told.outside one _ _ _ _ a;
+      line = run.line _ _ _ _ a;
+      no_memory = run.no_memory _ _ _ _ a;
+      write_fault = run.write_fault _ _ _ _ a;
       same_files = c.respond.ensures.same;
-      input_unread = refl;
+      input_read = run.input_read _ _ _ _ a;
+      input_read_too = run.input_read_too _ _ _ _ a;
     }
