@@ -1,8 +1,12 @@
-//! The worked programs over the devices in memory, and each device failing in turn. The modules below have the tables of the
-//! crates that stand below: grammar, syntax trees, typing, threads.
+//! The worked programs over the devices in memory, and each device failing in turn. The modules below have a table of small
+//! programs, the input, the limits of the heap and the output, and long runs, and the tables of the crates that stand
+//! below: grammar, syntax trees, typing, threads.
 
 mod grammar;
+mod input;
+mod limits;
 mod programs;
+mod speeds;
 mod syntax;
 mod threads;
 mod typing;
