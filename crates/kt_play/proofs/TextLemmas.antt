@@ -1,5 +1,5 @@
 -- A text is that of at most one version, and then has no fault.
-use Rattle.std.specs.Prelude.{◌≡◌, ℕ, ◌<◌, ◌≤◌, List, [], ◌∷◌, ◌++◌, Result, Ok, Err, length, refl}
+use Rattle.std.specs.Prelude.{◌≡◌, ℕ, ◌<◌, ◌≤◌, List, [], ◌∷◌, ◌++◌, Result, Ok, Err, refl}
 use Rattle.std.proofs.Common.{sym, subst, ap, ◌∙◌, arith, append_assoc, append-nil}
 use Rattle.kt_lex.specs.declared.token.Token.{Token}
 use Rattle.kt_lex.specs.Tokens.{tokens_of}
