@@ -1,6 +1,6 @@
 -- What is answered where files and input are told and nothing fails: the end of the job's run, or why there is no job.
 use Rattle.std.specs.Prelude.{◌≡◌, ℕ, ◌<◌, ◌⊎◌, List, length, Option, Some, IfSome, refl}
-use Rattle.std.proofs.Common.{inl, inr, sym, subst, ap, ◌∙◌, arith}
+use Rattle.std.proofs.Common.{inl, inr, subst, ap, ◌∙◌, arith}
 use Rattle.kt_edge.specs.Count.{Rose}
 use Rattle.kt_edge.specs.Writes.{Writes}
 use Rattle.kt_syntax.specs.File.{OneTree}

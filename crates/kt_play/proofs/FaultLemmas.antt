@@ -9,7 +9,7 @@ use Rattle.kt_lex.specs.Tokens.{tokens_of}
 use Rattle.kt_grammar.specs.declared.symbol.Symbol.{Symbol}
 use Rattle.kt_grammar.specs.Symbols.{symbols_of_tokens}
 use Rattle.kt_grammar.specs.Marks.{Mark, symbols_of, IsShallow}
-use Rattle.kt_syntax.specs.File.{OneTree, IsTree}
+use Rattle.kt_syntax.specs.File.{OneTree}
 use Rattle.kt_syntax.specs.Spelling.{externals}
 use Rattle.kt_syntax.specs.FaultPlaces.{BeginsFile, IsRefused, IsSyntaxAt, IsDeepAt}
 use Rattle.kt_syntax.specs.Places.{BreaksOff, IsTooDeepAt, place_of}
@@ -18,7 +18,7 @@ use Rattle.kt_names.specs.declared.fault.CheckFault.TheVariants as check
 use Rattle.kt_tree.specs.Version.{Program}
 use Rattle.kt_play.specs.declared.status.Cause.{Cause}
 use Rattle.kt_play.specs.declared.status.Cause.TheVariants.{Byte, Unclosed, Literal, Directive, Syntax, TooDeep, Unknown, Twice, BadType, Incomplete, TooBig, Entry, Note, NoMain, Later}
-use Rattle.kt_play.specs.Text.{HasTree, IsTypedAs, IsFaultOf, HasTokensWith}
+use Rattle.kt_play.specs.Text.{IsTypedAs, IsFaultOf, HasTokensWith}
 use Rattle.kt_play.proofs.TextLemmas.{same_tokens, one-outcome, split, shallow-middle, broken-none, deep-none, no_tokens}
 
 -- ---- one place

@@ -1,14 +1,14 @@
 -- A text is that of at most one version, and then has no fault.
-use Rattle.std.specs.Prelude.{◌≡◌, ℕ, ◌<◌, ◌≤◌, List, [], ◌∷◌, ◌++◌, Result, Ok, Err, length, refl}
-use Rattle.std.proofs.Common.{inl, inr, sym, subst, ap, ◌∙◌, arith, append_assoc, append-nil}
+use Rattle.std.specs.Prelude.{◌≡◌, ℕ, ◌<◌, ◌≤◌, List, [], ◌∷◌, ◌++◌, Result, Ok, Err, refl}
+use Rattle.std.proofs.Common.{sym, subst, ap, ◌∙◌, arith, append_assoc, append-nil}
 use Rattle.kt_lex.specs.declared.token.Token.{Token}
 use Rattle.kt_lex.specs.Tokens.{tokens_of}
 use Rattle.kt_grammar.specs.declared.symbol.Symbol.{Symbol}
 use Rattle.kt_grammar.specs.Symbols.{symbols_of_tokens}
 use Rattle.kt_grammar.specs.Marks.{Mark, symbols_of, IsShallow}
-use Rattle.kt_syntax.specs.File.{OneTree, IsFile, IsTree}
+use Rattle.kt_syntax.specs.File.{OneTree, IsTree}
 use Rattle.kt_syntax.specs.Spelling.{externals}
-use Rattle.kt_syntax.specs.FaultPlaces.{BeginsFile, IsRefused, IsSyntaxAt, IsDeepAt}
+use Rattle.kt_syntax.specs.FaultPlaces.{BeginsFile, IsRefused}
 use Rattle.kt_syntax.specs.Places.{BreaksOff, IsTooDeepAt}
 use Rattle.kt_syntax.specs.Tree.{Tree}
 use Rattle.kt_names.specs.declared.fault.CheckFault.{CheckFault}
