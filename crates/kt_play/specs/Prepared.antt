@@ -9,7 +9,7 @@ use Rattle.kt_play.specs.declared.refusal.Refusal.{Refusal}
 use Rattle.kt_play.specs.declared.refusal.Refusal.TheVariants.{Words, Read, Long, File, Memory}
 use Rattle.kt_play.specs.declared.status.Which.TheVariants as which
 use Rattle.kt_play.specs.Given.{HoldAll}
-use Rattle.kt_play.specs.Job.{IsShort, AreShort, IsShortInput, IsOutside}
+use Rattle.kt_play.specs.Job.{IsShort, AreShort, IsOutside}
 use Rattle.kt_play.specs.Text.{IsFaultOf}
 
 -- ---- reading

@@ -1,7 +1,6 @@
 -- What the text of a file is: a version, or a fault at a place.
 use Rattle.std.specs.Prelude.{◌≡◌, ℕ, List, Result, Ok, Err}
 use Rattle.kt_lex.specs.declared.token.Token.{Token}
-use Rattle.kt_lex.specs.declared.token.LexFault.{LexFault}
 use Rattle.kt_lex.specs.declared.token.LexFault.TheVariants as lex
 use Rattle.kt_lex.specs.Tokens.{tokens_of}
 use Rattle.kt_syntax.specs.File.{IsTree}
