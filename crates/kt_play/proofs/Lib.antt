@@ -1,3 +1,7 @@
-mod CodeLemmas
+mod AnswerLemmas
+mod FaultLemmas
 mod FileLemmas
 mod JobLemmas
+mod JournalLemmas
+mod OutcomeLemmas
+mod TextLemmas
