@@ -1,18 +1,14 @@
--- From the files and the input that were read to what the words name, or why it was not read.
-use Rattle.std.specs.Prelude.{◌≡◌, ℕ, ◌<◌, ◌≤◌, List, [], ◌∷◌, Option, Result, Ok, Err, IfOk, IfErr, length, slice_get, take, Some, None, refl}
+-- From what was read of a file to the whole file, or why not all files of some names were read.
+use Rattle.std.specs.Prelude.{◌≡◌, ℕ, ◌<◌, ◌≤◌, List, [], ◌∷◌, Option, Result, Ok, Err, IfOk, IfErr, length, refl}
 use Rattle.std.proofs.Common.{arith, sym, subst, ◌∙◌, ap, inl, inr}
 use Rattle.std.proofs.lemmas.List.{length-take, take_all}
 use Rattle.kt_edge.specs.Count.{Rose}
 use Rattle.kt_edge.specs.FileMap.{FileMap, Holds, Lacks, StartsFile}
-use Rattle.kt_world.specs.declared.job.Job.{Job}
-use Rattle.kt_world.specs.Plain.{job_of}
 use Rattle.kt_play.specs.declared.refusal.Refusal.{Refusal}
 use Rattle.kt_play.specs.declared.refusal.Refusal.TheVariants.{Words, Read, Long, File, Memory}
 use Rattle.kt_play.specs.declared.status.Which.TheVariants as which
-use Rattle.kt_play.specs.Given.{Given, HoldsInput}
-use Rattle.kt_play.specs.Job.{IsJobText}
-use Rattle.kt_play.specs.Prepared.{IsReadWhole, AreReadWhole, IsLong, IsReadCause, IsInputCause}
-use Rattle.kt_play.specs.Run.{HasJob, IsCauseFor, IsFilesCause, IsRestCause}
+use Rattle.kt_play.specs.Prepared.{IsReadWhole, IsLong, IsReadCause}
+use Rattle.kt_play.specs.Run.{IsFilesCause}
 
 -- what holds of an error holds of the result that is that error
 pub as_error : {X : Type 0} (r : Result X Refusal) (x y : Refusal) (P : Refusal → Type 0) → r ≡ Err x → x ≡ y → P y → IfErr r P
@@ -119,62 +115,3 @@ unread_third told told' told'' m n o a b before mid now (Long (which.File k)) sa
 unread_third told told' told'' m n o a b before mid now (Long which.Input) same same' h w v c = c
 unread_third told told' told'' m n o a b before mid now (File k cause) same same' h w v c = c
 unread_third told told' told'' m n o a b before mid now Memory same same' h w v c = tt
-
--- ---- the files and the input
-
-pub has_job : (given : Given) (names files : List (List ℕ)) (r : Result Job Refusal) → AreReadWhole given.told names files →
-    IfOk r (λ job. HoldsInput given.left_before job.input) → IfOk r (λ job. IsJobText files job.input (job_of job)) →
-    IfOk r (λ job. HasJob given (job_of job) names)
-has_job given names files (Ok job) whole input text = record {
-  files = files;
-  input = job.input;
-  holds = whole.holds;
-  holds_input = input;
-  text = text;
-}
-has_job given names files (Err refusal) whole input text = tt
-
--- files that could not be read
-pub files_cause : (given : Given) (names : List (List ℕ)) (refusal : Refusal) →
-    IsFilesCause refusal given.told given.faults_before given.faults_after names → IsCauseFor refusal given names
-files_cause given names Words h = h
-files_cause given names (Read (which.File n)) h = h
-files_cause given names (Read which.Input) h = absurd h
-files_cause given names (Long (which.File n)) h = h
-files_cause given names (Long which.Input) h = absurd h
-files_cause given names (File n cause) h = absurd h
-files_cause given names Memory h = tt
-
--- an input that could not be read, and what is no job
-pub input_rest : (refusal : Refusal) (left : Option (List ℕ)) (before now : ℕ) (files : List (List ℕ)) →
-    IsInputCause refusal left before now → IsRestCause refusal left before now files
-input_rest Words left before now files h = h
-input_rest (Read (which.File n)) left before now files h = h
-input_rest (Read which.Input) left before now files h = h
-input_rest (Long (which.File n)) left before now files h = h
-input_rest (Long which.Input) left before now files h = h
-input_rest (File n cause) left before now files h = absurd h
-input_rest Memory left before now files h = tt
-
-rest_cause : (given : Given) (names files : List (List ℕ)) (refusal : Refusal) → AreReadWhole given.told names files →
-    IsRestCause refusal given.left_before given.input_faults_before given.input_faults_after files → IsCauseFor refusal given names
-rest_cause given names files Words whole h = h
-rest_cause given names files (Read (which.File n)) whole h = absurd h
-rest_cause given names files (Read which.Input) whole h = record { files = files; holds = whole.holds; short = whole.short; input = h }
-rest_cause given names files (Long (which.File n)) whole h = absurd h
-rest_cause given names files (Long which.Input) whole h = record { files = files; holds = whole.holds; short = whole.short; input = h }
-rest_cause given names files (File n cause) whole h = record {
-  files = files;
-  input = h.0;
-  holds = whole.holds;
-  holds_input = h.1;
-  short_input = h.2;
-  outside = (whole.short, h.3);
-}
-rest_cause given names files Memory whole h = tt
-
-pub rest_causes : (given : Given) (names files : List (List ℕ)) (r : Result Job Refusal) → AreReadWhole given.told names files →
-    IfErr r (λ refusal. IsRestCause refusal given.left_before given.input_faults_before given.input_faults_after files) →
-    IfErr r (λ refusal. IsCauseFor refusal given names)
-rest_causes given names files (Ok job) whole h = tt
-rest_causes given names files (Err refusal) whole h = rest_cause given names files refusal whole h

@@ -1,4 +1,3 @@
-mod CodeLemmas
 mod Completeness
 mod FaultLemmas
 mod FileLemmas
