@@ -215,9 +215,19 @@ fn budget_ends_an_endless_loop(rt: HostRuntime) -> Result<(), Fail> {
 }
 
 #[test]
-fn each_cause_of_a_version_file(rt: HostRuntime) -> Result<(), Fail> {
+fn empty_file_has_no_main(rt: HostRuntime) -> Result<(), Fail> {
+    let played = run(rt.alloc(), "")?;
+    let status = Status::Refused {
+        file: 1,
+        cause: Cause::NoMain(0),
+    };
+    expect(&rt, &played, status, "", "refuse 1 no_main 0\n");
+    Ok(())
+}
+
+#[test]
+fn first_fault_of_a_file(rt: HostRuntime) -> Result<(), Fail> {
     for (text, cause, log) in [
-        ("", Cause::NoMain(0), "refuse 1 no_main 0\n"),
         ("int a;", Cause::NoMain(6), "refuse 1 no_main 6\n"),
         ("@", Cause::Byte(0), "refuse 1 byte 0\n"),
         ("int a; /* b", Cause::Unclosed(7), "refuse 1 unclosed 7\n"),
@@ -450,10 +460,30 @@ fn update<'x>(alloc: Global, old: &'x str, new: &'x str) -> Result<Played, Alloc
     call(alloc, &["old.c", "rules", "new.c"], texts, STEADY, STEADY)
 }
 
+// The same loop, which writes a line a turn, by `printf`; it has this letter, and a point of this name.
+fn counting_loop(alloc: Global, letter: &str, point: &str) -> Result<String, AllocError> {
+    format!(in alloc;
+        "int n;\nint main(void) {{\n  kitsune_do_automigrate();\n  while (n < 5) {{\n    kitsune_update(\"{point}\");\n    n = n + 1;\n    printf(\"{letter}%d\\n\", n);\n  }}\n  return 0;\n}}\n"
+    )
+}
+
 #[test]
 fn loop_updated_once(rt: HostRuntime) -> Result<(), Fail> {
     let played = update(rt.alloc(), LOOP_A, LOOP_B)?;
     expect(&rt, &played, Status::Main(0), "bbbbb", UPDATED);
+    // To print the number it is loaded, which takes one turn more in each of the five bodies.
+    let old = counting_loop(rt.alloc(), "a", "loop")?;
+    let new = counting_loop(rt.alloc(), "b", "loop")?;
+    let played = update(rt.alloc(), old.as_str(), new.as_str())?;
+    let journal =
+        "kit 1\nask 1\nturn 0 4\nclose 1 ok 0\nturn 0 4\nmain 1\nback 1\nturn 0 34\nend main 0\n";
+    expect(
+        &rt,
+        &played,
+        Status::Main(0),
+        "b1\nb2\nb3\nb4\nb5\n",
+        journal,
+    );
     Ok(())
 }
 
@@ -462,6 +492,56 @@ fn point_missing_in_new_version(rt: HostRuntime) -> Result<(), Fail> {
     let played = update(rt.alloc(), LOOP_A, OTHER_POINT)?;
     let journal = "kit 1\nask 1\nturn 0 4\nclose 1 refused point 0\nturn 0 29\nend main 0\n";
     expect(&rt, &played, Status::Main(0), "aaaaa", journal);
+    let old = counting_loop(rt.alloc(), "a", "loop")?;
+    let new = counting_loop(rt.alloc(), "b", "other")?;
+    let played = update(rt.alloc(), old.as_str(), new.as_str())?;
+    let journal = "kit 1\nask 1\nturn 0 4\nclose 1 refused point 0\nturn 0 34\nend main 0\n";
+    expect(
+        &rt,
+        &played,
+        Status::Main(0),
+        "a1\na2\na3\na4\na5\n",
+        journal,
+    );
+    Ok(())
+}
+
+#[test]
+fn arithmetic_traps(rt: HostRuntime) -> Result<(), Fail> {
+    for (text, cause, log) in [
+        (
+            "int main(void){int x=2147483647; return x+1;}",
+            Trap::Overflow,
+            "kit 1\nturn 0 1\nend trap 0 overflow\n",
+        ),
+        (
+            "int main(void){int x=-2147483647-1; return x/-1;}",
+            Trap::Overflow,
+            "kit 1\nturn 0 1\nend trap 0 overflow\n",
+        ),
+        (
+            "int main(void){return 1/0;}",
+            Trap::Zero,
+            "kit 1\nturn 0 1\nend trap 0 zero\n",
+        ),
+        (
+            "int main(void){char c=300; return c;}",
+            Trap::Range,
+            "kit 1\nturn 0 1\nend trap 0 range\n",
+        ),
+    ] {
+        let played = run(rt.alloc(), text)?;
+        expect(&rt, &played, Status::Trap { thread: 0, cause }, "", log);
+    }
+    Ok(())
+}
+
+#[test]
+fn division_and_short_circuit(rt: HostRuntime) -> Result<(), Fail> {
+    let text = "int main(void){printf(\"%d %d\\n\",-7/2,-7%2); return 0&&1/0;}";
+    let played = run(rt.alloc(), text)?;
+    let journal = "kit 1\nturn 0 2\nend main 0\n";
+    expect(&rt, &played, Status::Main(0), "-3 -1\n", journal);
     Ok(())
 }
 
