@@ -51,6 +51,17 @@ fn numbered(count: usize) -> Result<(), AllocError>
     Ok(())
 }
 
+/// Whether each entry of these lists has a number.
+fn are_numbered(parts: &Assembly, literals: &[Text]) -> Result<(), AllocError>
+    ensures globals { OnOk result (length parts.now.globals.items < 2 ^ 32) }
+    ensures literals { OnOk result (length literals.now < 2 ^ 32) }
+    ensures functions { OnOk result (length parts.now.functions.items < 2 ^ 32) }
+{
+    numbered(parts.globals.len())?;
+    numbered(literals.len())?;
+    numbered(parts.functions.len())
+}
+
 /// The version of these parts.
 fn assembled(
     alloc: Global,
@@ -63,9 +74,10 @@ fn assembled(
     requires few { length points.names < 2 ^ 32 }
     ensures { IfOk result (λ v. v ≡ program table parts.globals.items literals.items (map function_of parts.functions.items) points) }
 {
-    numbered(parts.globals.len())?;
-    numbered(literals.len())?;
-    numbered(parts.functions.len())?;
+    if let Err(e) = are_numbered(&parts, &literals) {
+        drop((table, points, literals, parts));
+        return Err(e);
+    }
     let globals = Globals::from_vec(parts.globals);
     let literals = Literals::from_vec(literals);
     let functions = Functions::from_vec(parts.functions);

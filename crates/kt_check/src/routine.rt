@@ -1,6 +1,6 @@
 //! Functions, as a file declares them (ISO/IEC 9899:2011, 6.9.1).
 
-ghost use Rattle.std.specs.Prelude.{◌≡◌, ◌==◌, ◌||◌, ◌++◌, not, Ok, Err, Some, IfOk, OnOk, IfErr, ℕ, List, map, if◌then◌else◌};
+ghost use Rattle.std.specs.Prelude.{◌≡◌, ◌==◌, ◌||◌, ◌++◌, not, Ok, Some, IfOk, OnOk, IfErr, ℕ, List, map, if◌then◌else◌};
 ghost use Rattle.kt_syntax.specs.Tree.{routine_of};
 ghost use Rattle.kt_tree.specs.Tree.{function_of};
 ghost use Rattle.std.specs.Option.{is_some};
@@ -356,15 +356,11 @@ fn with_function<'f>(
 {
     match with_routine(frame, sofar, f) {
         Ok(next) => with_body(frame, next, fun),
-        Err(fault) => refused(fun, fault),
+        Err(fault) => {
+            drop(fun);
+            Err(fault)
+        }
     }
-}
-
-/// A fault, for which a function is let go.
-fn refused<'f>(_fun: Option<Fun>, fault: CheckFault) -> Result<Sofar<'f>, CheckFault>
-    ensures { result ≡ Err fault }
-{
-    Err(fault)
 }
 
 /// A declaration of a function.

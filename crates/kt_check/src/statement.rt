@@ -81,6 +81,7 @@ fn left(in_loop: bool, at: u32, whole: Stmt) -> Result<Stmt, CheckFault>
     if in_loop {
         Ok(whole)
     } else {
+        drop(whole);
         Err(CheckFault::BadType { at })
     }
 }
@@ -186,7 +187,10 @@ fn head_with(
 {
     match step(body, scopes, e) {
         Ok(step) => Ok(Head { first, test, step }),
-        Err(fault) => Err(fault),
+        Err(fault) => {
+            drop((first, test));
+            Err(fault)
+        }
     }
 }
 
@@ -253,7 +257,10 @@ fn repeated_behind(
 {
     match condition(body, scopes, c) {
         Ok(test) => repeat_loop(body.outside.alloc, inner, test),
-        Err(fault) => Err(fault),
+        Err(fault) => {
+            drop(inner);
+            Err(fault)
+        }
     }
 }
 
@@ -347,7 +354,10 @@ fn behind_test(
 {
     match statement(s, body, in_loop, scopes) {
         Ok(inner) => Ok((test, inner)),
-        Err(fault) => Err(fault),
+        Err(fault) => {
+            drop(test);
+            Err(fault)
+        }
     }
 }
 
@@ -401,7 +411,10 @@ fn otherwise(
 {
     match statement(s, body, in_loop, scopes) {
         Ok(other) => if_else(body.outside.alloc, parts, other),
-        Err(fault) => Err(fault),
+        Err(fault) => {
+            drop(parts);
+            Err(fault)
+        }
     }
 }
 
@@ -452,7 +465,10 @@ fn counted_behind(
 {
     match statement(s, body, true, scopes) {
         Ok(inner) => for_loop(body.outside.alloc, head, inner),
-        Err(fault) => Err(fault),
+        Err(fault) => {
+            drop(head);
+            Err(fault)
+        }
     }
 }
 

@@ -8,7 +8,7 @@ use std::alloc::AllocError;
 use std::marker::Model;
 
 /// A list of instructions.
-#[derive(Debug, Drop)]
+#[derive(Drop)]
 pub struct Instrs {
     items: Vec<Instr>,
 }
@@ -55,7 +55,7 @@ impl Instrs {
 }
 
 /// For each function the place of its first instruction.
-#[derive(Debug, Drop)]
+#[derive(Drop)]
 pub struct Entries {
     items: Vec<u32>,
 }

@@ -8,7 +8,7 @@ use std::marker::Model;
 use std::mem;
 
 /// A call that is open: the number of the function, the place of its next instruction, and the values of its locals.
-#[derive(Debug, Drop)]
+#[derive(Drop)]
 pub struct Frame {
     pub function: u32,
     pub at: u32,
@@ -28,7 +28,7 @@ impl Clone for Frame {
 }
 
 /// The open calls of a thread, seen as a list with the latest first.
-#[derive(Debug, Drop)]
+#[derive(Drop)]
 pub struct Frames {
     // The latest call stands last.
     items: Vec<Frame>,

@@ -9,7 +9,7 @@ const _: () = prove!(size_of::<Instr>() <= 16);
 
 /// One instruction. Values are taken from the operands and put onto them, the topmost first. A jump tells how many
 /// instructions it passes, or how many it goes back, from the instruction behind it.
-#[derive(Debug, Drop)]
+#[derive(Drop)]
 pub enum Instr {
     /// Puts a number.
     Number(i64),

@@ -17,6 +17,3 @@ pub use instr::Instr;
 pub use laws::{agreement_law, settle_law};
 pub use operands::{Operand, Operands};
 pub use private::{Head, Private};
-
-#[cfg(test)]
-mod tests;

@@ -33,7 +33,7 @@ impl Private {
 }
 
 /// What a thread has come to after its quiet steps.
-#[derive(Debug, Drop)]
+#[derive(Drop)]
 pub enum Head {
     Act(Act),
     Trap(Trap),

@@ -14,8 +14,13 @@ pub fn compile(alloc: Global, version: Version) -> Result<Compiled, AllocError>
     ensures { IfOk result (λ c. c ≡ record { program = version; code = version_code version }) }
 {
     version_code_law(&version);
-    let code = code_of(alloc, &version)?;
-    Ok(Compiled::new(version, code))
+    match code_of(alloc, &version) {
+        Ok(code) => Ok(Compiled::new(version, code)),
+        Err(fault) => {
+            drop(version);
+            Err(fault)
+        }
+    }
 }
 
 // The version's code: its functions one after another.

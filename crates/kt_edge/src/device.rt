@@ -1,10 +1,11 @@
 //! What files, sources and sinks promise. What they tell of their bytes is optional: it is `None`
 //! where nobody knows them.
 
-ghost use Rattle.std.specs.Prelude.{◌≡◌, ℕ, ◌+◌, ◌<◌, ◌≤◌, List, Option, length, IfOk, IsErrOf, vec_len};
+ghost use Rattle.std.specs.Prelude.{◌≡◌, ℕ, ◌+◌, ◌<◌, ◌≤◌, List, Option, Result, length, IfOk, IsErrOf, is_err, vec_len, ⊤};
 ghost use Rattle.std.specs.Io.{ReadsAtMost, WritesAtMost};
 ghost use Rattle.std.specs.Io.KnownBytes.{ReadConsumes, WriteAppends};
-ghost use Rattle.kt_edge.specs.Count.{HasCause, Rose};
+ghost use Rattle.kt_edge.specs.declared.ends.Failed.{Failed};
+ghost use Rattle.kt_edge.specs.Count.{HasCause, Rose, count_after, one_more};
 ghost use Rattle.kt_edge.specs.FileMap.{FileMap, Lacks, StartsFile};
 
 use crate::{Failed, FileEnd};
@@ -30,7 +31,12 @@ pub trait Files {
             → Rose (faults self.old) (faults self.new) }
         ensures missing { IsErrOf result FileEnd.Missing → Lacks (told self.old) name.now }
         ensures missing_is_no_fault { IsErrOf result FileEnd.Missing
-            → faults self.new ≡ faults self.old };
+            → faults self.new ≡ faults self.old }
+
+        // The count rises by one at `Failed`, and stays at any other answer.
+        ensures rises { IsErrOf result FileEnd.Failed
+            → faults self.new ≡ one_more (faults self.old) }
+        ensures stays { ¬ IsErrOf result FileEnd.Failed → faults self.new ≡ faults self.old };
 }
 
 /// Bytes that are read once, in order.
@@ -46,7 +52,8 @@ pub trait Source {
     fn read(&mut self, buf: &mut [u8]) -> Result<usize, Failed>
         ensures bound { ReadsAtMost result buf.new }
         ensures bytes { ReadConsumes (left self.old) (left self.new) result buf.new }
-        ensures cause { HasCause (faults self.old) (faults self.new) result };
+        ensures cause { HasCause (faults self.old) (faults self.new) result }
+        ensures count { faults self.new ≡ count_after (faults self.old) (is_err result) };
 }
 
 /// Takes bytes, in order.
@@ -57,11 +64,17 @@ pub trait Sink {
     /// How often a write failed, up to the last value of 64 bits.
     ghost faults: { Self → ℕ };
 
+    /// Relates the sink before a call, the bytes that it is given, its answer, and the sink after it.
+    /// The default says nothing.
+    ghost write_gives: { Self → List ℕ → Result ℕ Failed → Self → Type 0 } = { λ _ _ _ _. ⊤ };
+
     /// Takes bytes from the front of `bytes`, and says how many: at least one of a piece that isn't
     /// empty. A write that fails has taken nothing.
     fn write(&mut self, bytes: &[u8]) -> Result<usize, Failed>
         ensures bound { WritesAtMost result bytes.now }
         ensures some { IfOk result (λ n. 0 < length bytes.now → 0 < n) }
         ensures bytes { WriteAppends (taken self.old) (taken self.new) result bytes.now }
-        ensures cause { HasCause (faults self.old) (faults self.new) result };
+        ensures cause { HasCause (faults self.old) (faults self.new) result }
+        ensures count { faults self.new ≡ count_after (faults self.old) (is_err result) }
+        ensures gives { write_gives self.old bytes.now result self.new };
 }

@@ -1,8 +1,10 @@
-//! The host's files and streams. Nobody knows their bytes, so they tell nothing. Each counts its
-//! faults.
+//! The host's files, and any reader and writer. A source tells of its bytes what its reader tells,
+//! and a sink what its writer tells: nothing of an open file or a stream, all of a slice that is read
+//! and of a vector that is written. Files by their paths tell nothing. Each counts its faults.
 
 ghost use Rattle.std.specs.Prelude.{◌≡◌, ◌+◌, ◌<◌, ◌≤◌, None, IfOk, IsErrOf, is_err, vec_len};
 ghost use Rattle.std.specs.Io.{ReadsAtMost, WritesAtMost};
+ghost use Rattle.std.specs.Io.KnownBytes.{ReadConsumes, WriteAppends};
 ghost use Rattle.kt_edge.specs.Count.{HasCause, Rose, count_after, one_more};
 
 use crate::whole::read_start;
@@ -22,7 +24,8 @@ pub struct HostFiles<R> {
 /// A stream or an open file that is read.
 #[derive(Drop)]
 pub struct HostSource<R> {
-    reader: R,
+    /// What it reads from.
+    pub reader: R,
     /// How often a read failed, up to the last value.
     pub faults: u64,
 }
@@ -30,7 +33,8 @@ pub struct HostSource<R> {
 /// A stream that is written. A write that takes no byte is a fault.
 #[derive(Drop)]
 pub struct HostSink<W> {
-    writer: W,
+    /// What it writes to.
+    pub writer: W,
     /// How often a write failed, up to the last value.
     pub faults: u64,
 }
@@ -47,7 +51,8 @@ impl<R: rt::Files> HostFiles<R> {
 impl<R: io::Read> HostSource<R> {
     /// Reads from here, with no fault so far.
     pub fn new(reader: R) -> Self
-        ensures { result.faults ≡ 0 }
+        ensures reader { result.reader ≡ reader }
+        ensures faults { result.faults ≡ 0 }
     {
         HostSource { reader, faults: 0 }
     }
@@ -56,7 +61,8 @@ impl<R: io::Read> HostSource<R> {
 impl<W: io::Write> HostSink<W> {
     /// Writes there, with no fault so far.
     pub fn new(writer: W) -> Self
-        ensures { result.faults ≡ 0 }
+        ensures writer { result.writer ≡ writer }
+        ensures faults { result.faults ≡ 0 }
     {
         HostSink { writer, faults: 0 }
     }
@@ -102,12 +108,14 @@ impl<R: rt::Files> Files for HostFiles<R> {
 }
 
 impl<R: io::Read> Source for HostSource<R> {
-    ghost left = { λ _. None };
+    ghost left = { λ source. R.remaining source.reader };
 
     ghost faults = { λ source. source.faults };
 
     fn read(&mut self, buf: &mut [u8]) -> Result<usize, Failed>
         ensures bound { ReadsAtMost result buf.new }
+        ensures bytes { ReadConsumes
+            (R.remaining self.old.reader) (R.remaining self.new.reader) result buf.new }
         ensures cause { HasCause self.old.faults self.new.faults result }
         ensures count { self.new.faults ≡ count_after self.old.faults (is_err result) }
     {
@@ -122,13 +130,15 @@ impl<R: io::Read> Source for HostSource<R> {
 }
 
 impl<W: io::Write> Sink for HostSink<W> {
-    ghost taken = { λ _. None };
+    ghost taken = { λ sink. W.contents sink.writer };
 
     ghost faults = { λ sink. sink.faults };
 
     fn write(&mut self, bytes: &[u8]) -> Result<usize, Failed>
         ensures bound { WritesAtMost result bytes.now }
         ensures some { IfOk result (λ n. 0 < n) }
+        ensures bytes { WriteAppends
+            (W.contents self.old.writer) (W.contents self.new.writer) result bytes.now }
         ensures cause { HasCause self.old.faults self.new.faults result }
         ensures count { self.new.faults ≡ count_after self.old.faults (is_err result) }
     {

@@ -15,6 +15,3 @@ pub use ends::{Failed, FileEnd, ReadEnd};
 pub use host::{HostFiles, HostSink, HostSource};
 pub use memory::{MemFiles, MemSink, MemSource};
 pub use whole::{read_all, write_whole};
-
-#[cfg(test)]
-mod tests;

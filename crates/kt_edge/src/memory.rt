@@ -95,6 +95,8 @@ impl Files for MemFiles {
             → Lacks (told_of self.old.entries.items) name.now }
         ensures missing_is_no_fault { IsErrOf result FileEnd.Missing
             → self.new.faults ≡ self.old.faults }
+        ensures rises { IsErrOf result FileEnd.Failed → self.new.faults ≡ one_more self.old.faults }
+        ensures stays { ¬ IsErrOf result FileEnd.Failed → self.new.faults ≡ self.old.faults }
 
         // It fails exactly at the listed calls. At the others it answers `Missing` exactly where it
         // lacks the name.
@@ -185,6 +187,9 @@ impl Sink for MemSink {
     ghost taken = { λ sink. Some sink.taken.items };
 
     ghost faults = { λ sink. sink.faults };
+
+    ghost write_gives = { λ old bytes result new. (new.calls ≡ one_more old.calls) × IfOk result
+        (λ n. n ≡ min (min (length bytes) (old.room - vec_len old.taken)) old.piece) };
 
     fn write(&mut self, bytes: &[u8]) -> Result<usize, Failed>
         ensures bound { WritesAtMost result bytes.now }

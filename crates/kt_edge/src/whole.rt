@@ -1,8 +1,9 @@
 //! Reading a source to its end, and writing all of some bytes.
 
-ghost use Rattle.std.specs.Prelude.{◌≡◌, ℕ, ◌+◌, ◌<◌, ◌≤◌, List, IfOk, IfSome, IsErr, IsErrOf, IsSomeAnd, OnOk, OnErr, length, vec_len};
+ghost use Rattle.std.specs.Prelude.{◌≡◌, ℕ, ◌+◌, ◌<◌, ◌≤◌, List, IfOk, IfSome, IsErr, IsErrOf, IsSomeAnd, OnOk, OnErr, is_err, length, vec_len};
 ghost use Rattle.std.specs.Io.KnownBytes.{Appends, Consumes, IsAtEnd};
-ghost use Rattle.kt_edge.specs.Count.{HasCause, Rose};
+ghost use Rattle.kt_edge.specs.Calls.{WritesByCalls};
+ghost use Rattle.kt_edge.specs.Count.{HasCause, Rose, count_after, one_more};
 ghost use Rattle.kt_edge.specs.Writes.{AppendsPart};
 
 use crate::{Failed, ReadEnd, Sink, Source};
@@ -25,6 +26,10 @@ pub(crate) fn read_start<S: Source>(
     ensures later { S.faults source.old ≤ S.faults source.new }
     ensures failed { IsErrOf result ReadEnd.Failed
         → Rose (S.faults source.old) (S.faults source.new) }
+    ensures rises { IsErrOf result ReadEnd.Failed
+        → S.faults source.new ≡ one_more (S.faults source.old) }
+    ensures stays { ¬ IsErrOf result ReadEnd.Failed
+        → S.faults source.new ≡ S.faults source.old }
     ensures never_too_long { IsErrOf result ReadEnd.TooLong → ⊥ }
 {
     let mut buffer = [0; BUFFER];
@@ -60,7 +65,17 @@ pub fn read_all<S: Source>(alloc: Global, source: &mut S, limit: u32) -> Result<
     ensures later { S.faults source.old ≤ S.faults source.new }
     ensures failed { IsErrOf result ReadEnd.Failed
         → Rose (S.faults source.old) (S.faults source.new) }
+
+    // The count rises by one at `Failed`, and stays at any other answer.
+    ensures rises { IsErrOf result ReadEnd.Failed
+        → S.faults source.new ≡ one_more (S.faults source.old) }
+    ensures stays { ¬ IsErrOf result ReadEnd.Failed
+        → S.faults source.new ≡ S.faults source.old }
+
+    // What is gone: a front of the rest, and at `TooLong` one byte more than the limit.
     ensures front { (bytes : List ℕ) × Consumes (S.left source.old) (S.left source.new) bytes }
+    ensures one_too_many { IsErrOf result ReadEnd.TooLong → (bytes : List ℕ)
+        × (length bytes ≡ limit + 1) × Consumes (S.left source.old) (S.left source.new) bytes }
 {
     let bytes = read_start(alloc, source, limit as usize + 1)?;
     if bytes.len() > limit as usize {
@@ -75,6 +90,10 @@ pub fn write_whole<K: Sink>(sink: &mut K, bytes: &[u8]) -> Result<(), Failed>
     ensures whole { OnOk result (Appends (K.taken sink.old) (K.taken sink.new) bytes.now) }
     ensures part { OnErr result (AppendsPart (K.taken sink.old) (K.taken sink.new) bytes.now) }
     ensures cause { HasCause (K.faults sink.old) (K.faults sink.new) result }
+    ensures count { K.faults sink.new ≡ count_after (K.faults sink.old) (is_err result) }
+
+    // Each call is given all bytes that are left, and a failing call is the last.
+    ensures calls { WritesByCalls K.write_gives sink.old bytes.now result sink.new }
 {
     let mut rest = bytes;
     while !rest.is_empty() {

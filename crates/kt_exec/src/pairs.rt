@@ -4,7 +4,7 @@ ghost use Rattle.std.specs.Prelude.{◌≡◌};
 use std::marker::Model;
 
 /// Pairs of an old name and a new one.
-#[derive(Debug, Drop)]
+#[derive(Drop)]
 pub struct NamePairs {
     items: Vec<(u64, u64)>,
 }

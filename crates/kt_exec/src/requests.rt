@@ -131,8 +131,7 @@ fn print(alloc: Global, parts: &[Part], values: &[Operand]) -> Result<Result<Act
 fn byte(alloc: Global, n: i64) -> Result<Pieces, AllocError>
     ensures { IfOk result (λ pieces. pieces ≡ Piece.Byte (byte_of n) ∷ []) }
 {
-    let mut made = Vec::new(alloc);
-    made.push(Piece::Byte(low_byte(n)))?;
+    let made = vec![in alloc; Piece::Byte(low_byte(n))]?;
     Ok(Pieces::from_vec(made))
 }
 
@@ -140,11 +139,8 @@ fn byte(alloc: Global, n: i64) -> Result<Pieces, AllocError>
 fn line(alloc: Global, pointer: Value) -> Result<Pieces, AllocError>
     ensures { IfOk result (λ pieces. pieces ≡ Piece.TextAt pointer ∷ Piece.Bytes (10 ∷ []) ∷ []) }
 {
-    let mut end = Vec::new(alloc);
-    end.push(b'\n')?;
-    let mut made = Vec::new(alloc);
-    made.push(Piece::TextAt(pointer))?;
-    made.push(Piece::Bytes(Text::from_vec(end)))?;
+    let end = Text::from_vec(Vec::from_slice(alloc, b"\n")?);
+    let made = vec![in alloc; Piece::TextAt(pointer), Piece::Bytes(end)]?;
     Ok(Pieces::from_vec(made))
 }
 

@@ -36,6 +36,11 @@ pub fn settle(alloc: Global, code: &Code, private: &mut Private) -> Result<Head,
     };
     let mut top = Top::from_frame(frame);
     let head = run(alloc, code, &mut top, private)?;
-    private.frames.push(top.into_frame())?;
-    Ok(head)
+    match private.frames.push(top.into_frame()) {
+        Ok(()) => Ok(head),
+        Err(fault) => {
+            drop(head);
+            Err(fault)
+        }
+    }
 }

@@ -11,7 +11,7 @@ use Rattle.kt_lex.specs.declared.token.Kind.TheVariants as kind
 use Rattle.kt_lex.specs.declared.token.Token.{Token}
 use Rattle.kt_lex.specs.Bytes.{is_word_byte, dollar}
 use Rattle.kt_lex.specs.Words.{is_among, keywords, rule_words, signs_of_one, signs_of_two}
-use Rattle.kt_lex.specs.Cover.{signs, IsName, IsSpelling, Part, Between, Spelled, IsPart, spelling_of, tokens_at, TokensAreCut}
+use Rattle.kt_lex.specs.Cover.{signs, IsName, IsSpelling, Part, Between, Spelled, AreParts, spelling_of, tokens_at, TokensAreCut}
 use Rattle.kt_grammar.specs.declared.symbol.Symbol.{Symbol}
 use Rattle.kt_grammar.specs.declared.symbol.Symbol.TheVariants as symbol
 use Rattle.kt_grammar.specs.Identifiers.{is_identifier}
@@ -84,7 +84,7 @@ spelling_behind before word rest =
     ∙ take_at word rest ((length before + length word) - length before) (omega arith)
 
 -- the tokens of parts behind other bytes stand for something
-parts_known : (before : List ℕ) (parts : List Part) → AllByRecursion IsPart parts
+parts_known : (before : List ℕ) (parts : List Part) → AreParts before parts []
     → AllByRecursion IsKnown (map (symbol_of (before ++ flat_map spelling_of parts)) (tokens_at before parts))
 unfolding symbol_of spelling_in
 parts_known before [] each = tt
@@ -92,7 +92,7 @@ parts_known before (Between word ∷ parts) each =
     subst (λ (bytes : List ℕ). AllByRecursion IsKnown (map (symbol_of bytes) (tokens_at (before ++ word) parts))) (append_assoc before word (flat_map spelling_of parts))
     (parts_known (before ++ word) parts each.1)
 parts_known before (Spelled k word ∷ parts) each = (
-  subst (λ w. IsKnown (spelled (length before) k w)) (sym (spelling_behind before word (flat_map spelling_of parts))) (known_spelling (length before) k word each.0),
+  subst (λ w. IsKnown (spelled (length before) k w)) (sym (spelling_behind before word (flat_map spelling_of parts))) (known_spelling (length before) k word each.0.0),
   subst (λ (bytes : List ℕ). AllByRecursion IsKnown (map (symbol_of bytes) (tokens_at (before ++ word) parts))) (append_assoc before word (flat_map spelling_of parts))
       (parts_known (before ++ word) parts each.1),
 )

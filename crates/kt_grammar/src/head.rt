@@ -7,7 +7,7 @@ ghost use Rattle.kt_grammar.specs.Reading.{old_symbol_at};
 ghost use Rattle.kt_grammar.specs.Heads.{front_of, enclosed, applied, name_head, open_head, prefix_head, rule_head, sign_head, head_at};
 
 use super::cursor::{begins_sign, behind, behind_first, name};
-use super::fault::Fault;
+use super::fault::{Fault, beside};
 use super::keyword::{Keyword, RuleWord};
 use super::node::{converted, parenthesised, prefixed, transformed};
 use super::operator::{Dialect, PrefixOperator};
@@ -20,21 +20,21 @@ use sqlite_items::Items;
 use std::alloc::{AllocError, Global};
 
 /// What encloses an expression, and where it begins.
-#[derive(Clone, Copy, Debug)]
+#[derive(Clone, Copy)]
 pub(crate) enum Enclosing {
     Parenthesis(u32),
     Transform(u32),
 }
 
 /// What stands before an operand, and where it begins.
-#[derive(Debug, Drop)]
+#[derive(Drop)]
 pub(crate) enum Prefixing {
     Prefix(u32, PrefixOperator),
     Cast(u32, TypeName),
 }
 
 /// The front of a unary expression.
-#[derive(Debug, Drop)]
+#[derive(Drop)]
 pub(crate) enum Head {
     /// All of a primary expression.
     Whole(Expr),
@@ -91,7 +91,7 @@ fn open(at: u32, symbols: &[Symbol]) -> Result<(Head, &[Symbol]), Fault>
         return Ok((Head::Enclosing(Enclosing::Parenthesis(at)), symbols));
     }
     let (type_name, rest) = type_name(symbols)?;
-    let rest = behind(Sign::CloseParenthesis, rest)?;
+    let (type_name, rest) = beside(type_name, behind(Sign::CloseParenthesis, rest))?;
     Ok((Head::Prefixing(Prefixing::Cast(at, type_name)), rest))
 }
 
@@ -190,6 +190,6 @@ fn old_symbol(at: u32, symbols: &[Symbol]) -> Result<(Expr, &[Symbol]), Fault>
 {
     let rest = behind(Sign::OpenParenthesis, symbols)?;
     let (name, rest) = name(rest)?;
-    let rest = behind(Sign::CloseParenthesis, rest)?;
+    let (name, rest) = beside(name, behind(Sign::CloseParenthesis, rest))?;
     Ok((Expr::OldSymbol(at, name), rest))
 }

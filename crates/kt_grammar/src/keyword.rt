@@ -1,5 +1,5 @@
 /// A keyword (ISO/IEC 9899:2011, 6.4.1, those of pthreads and stdio.h, and those of updates).
-#[derive(Clone, Copy, Debug, PartialEq, Eq)]
+#[derive(Clone, Copy, PartialEq, Eq)]
 pub enum Keyword {
     Char,
     Int,
@@ -27,7 +27,7 @@ pub enum Keyword {
 }
 
 /// A word of rule files that begins with a dollar sign.
-#[derive(Clone, Copy, Debug, PartialEq, Eq)]
+#[derive(Clone, Copy, PartialEq, Eq)]
 pub enum RuleWord {
     In,
     Out,

@@ -8,7 +8,7 @@ ghost use Rattle.kt_grammar.specs.Tree.{term_of};
 ghost use Rattle.kt_grammar.specs.Reading.{begins_expr, binary_here, assign_here, deeper, deep_level, chain_at, choice_at, assignment_at, tail_at, level_at, expr_at};
 
 use super::cursor::{begins_sign, behind, behind_first};
-use super::fault::Fault;
+use super::fault::{Fault, beside};
 use super::keyword::Keyword;
 use super::node::{assigned, chosen, operated};
 use super::operator::{AssignOperator, BinaryOperator, Dialect};
@@ -139,7 +139,8 @@ fn assignment<'t>(
     match assign_here(dialect, symbols) {
         None => Ok((x, symbols)),
         Some(operator) => {
-            let (y, rest) = deep(alloc, dialect, depth, 0, behind_first(symbols))?;
+            let right = behind_first(symbols);
+            let (x, (y, rest)) = beside(x, deep(alloc, dialect, depth, 0, right))?;
             let x = assigned(alloc, operator, x, y)?;
             Ok((x, rest))
         }
@@ -161,9 +162,10 @@ fn choice<'t>(
     if !begins_sign(Sign::Question, symbols) {
         return Ok((x, symbols));
     }
-    let (a, rest) = deep(alloc, dialect, depth, 0, behind_first(symbols))?;
-    let rest = behind(Sign::Colon, rest)?;
-    let (b, rest) = deep(alloc, dialect, depth, 1, rest)?;
+    let inner = behind_first(symbols);
+    let (x, (a, rest)) = beside(x, deep(alloc, dialect, depth, 0, inner))?;
+    let (read, rest) = beside((x, a), behind(Sign::Colon, rest))?;
+    let ((x, a), (b, rest)) = beside(read, deep(alloc, dialect, depth, 1, rest))?;
     let x = chosen(alloc, x, a, b)?;
     Ok((x, rest))
 }
@@ -188,11 +190,12 @@ fn chain<'t>(
     while let Some(operator) = binary_here(level_of, rest) {
         let right = behind_first(rest);
         if depth == 0 {
+            drop(x);
             return Err(stuck(dialect, right));
         }
         depth -= 1;
-        let (y, after) = level(alloc, dialect, depth, level_of + 1, right)?;
-        x = operated(alloc, operator, x, y)?;
+        let (left, (y, after)) = beside(x, level(alloc, dialect, depth, level_of + 1, right))?;
+        x = operated(alloc, operator, left, y)?;
         rest = after;
     }
     Ok((x, rest))

@@ -23,7 +23,7 @@ mod unary;
 mod word;
 
 pub use cursor::{begins_sign, behind, behind_first, count_sign, name};
-pub use fault::Fault;
+pub use fault::{Fault, beside};
 pub use keyword::{Keyword, RuleWord};
 pub use laws::{expr_laws, symbols_law};
 pub use levels::{begins_expr, expr, stuck};

@@ -35,8 +35,7 @@ pub(crate) fn transformed(alloc: Global, at: u32, inner: Expr) -> Result<Expr, A
 pub(crate) fn element(alloc: Global, array: Expr, index: Expr) -> Result<Expr, AllocError>
     ensures { IfOk result (λ x. term_of x ≡ Element (term_of array) (term_of index)) }
 {
-    let array = Boxed::new(alloc, array)?;
-    let index = Boxed::new(alloc, index)?;
+    let (array, index) = both(boxed(alloc, array), boxed(alloc, index))?;
     Ok(Expr::Index(array, index))
 }
 
@@ -103,8 +102,7 @@ pub(crate) fn operated(
 ) -> Result<Expr, AllocError>
     ensures { IfOk result (λ x. term_of x ≡ Operated operator (term_of left) (term_of right)) }
 {
-    let left = Boxed::new(alloc, left)?;
-    let right = Boxed::new(alloc, right)?;
+    let (left, right) = both(boxed(alloc, left), boxed(alloc, right))?;
     Ok(Expr::Binary(operator, left, right))
 }
 
@@ -117,9 +115,10 @@ pub(crate) fn chosen(
 ) -> Result<Expr, AllocError>
     ensures { IfOk result (λ x. term_of x ≡ Chosen (term_of condition) (term_of one) (term_of other)) }
 {
-    let condition = Boxed::new(alloc, condition)?;
-    let one = Boxed::new(alloc, one)?;
-    let other = Boxed::new(alloc, other)?;
+    let (condition, (one, other)) = both(
+        boxed(alloc, condition),
+        both(boxed(alloc, one), boxed(alloc, other)),
+    )?;
     Ok(Expr::Choice(condition, one, other))
 }
 
@@ -132,7 +131,29 @@ pub(crate) fn assigned(
 ) -> Result<Expr, AllocError>
     ensures { IfOk result (λ x. term_of x ≡ Assigned operator (term_of left) (term_of right)) }
 {
-    let left = Boxed::new(alloc, left)?;
-    let right = Boxed::new(alloc, right)?;
+    let (left, right) = both(boxed(alloc, left), boxed(alloc, right))?;
     Ok(Expr::Assign(operator, left, right))
+}
+
+// Both, where both are there.
+fn both<A: Drop, B: Drop>(
+    a: Result<A, AllocError>,
+    b: Result<B, AllocError>,
+) -> Result<(A, B), AllocError>
+    ensures { IfOk result (λ p. (a ≡ Ok p.0) × (b ≡ Ok p.1)) }
+{
+    match (a, b) {
+        (Ok(a), Ok(b)) => Ok((a, b)),
+        _ => Err(AllocError),
+    }
+}
+
+// The value in a box. Where there is no memory, it is let go here, and not by each caller.
+fn boxed<T: Drop>(alloc: Global, x: T) -> Result<Boxed<T>, AllocError>
+    ensures { IfOk result (λ b. b ≡ x) }
+{
+    match Boxed::new(alloc, x) {
+        Ok(b) => Ok(b),
+        Err(_) => Err(AllocError),
+    }
 }

@@ -1,13 +1,13 @@
 /// Which files an expression is of. Rule files lack assignment, `++`, `--`, `&`, strings, calls and `sizeof`, and C files
 /// the rule words.
-#[derive(Clone, Copy, Debug, PartialEq, Eq)]
+#[derive(Clone, Copy, PartialEq, Eq)]
 pub enum Dialect {
     C,
     Rules,
 }
 
 /// A unary operator (ISO/IEC 9899:2011, 6.5.3).
-#[derive(Clone, Copy, Debug, PartialEq, Eq)]
+#[derive(Clone, Copy, PartialEq, Eq)]
 pub enum PrefixOperator {
     Negate,
     Not,
@@ -18,14 +18,14 @@ pub enum PrefixOperator {
 }
 
 /// A postfix operator without operands (6.5.2.4).
-#[derive(Clone, Copy, Debug, PartialEq, Eq)]
+#[derive(Clone, Copy, PartialEq, Eq)]
 pub enum StepOperator {
     Increment,
     Decrement,
 }
 
 /// A binary operator (6.5.5 to 6.5.14).
-#[derive(Clone, Copy, Debug, PartialEq, Eq)]
+#[derive(Clone, Copy, PartialEq, Eq)]
 pub enum BinaryOperator {
     Or,
     And,
@@ -43,7 +43,7 @@ pub enum BinaryOperator {
 }
 
 /// An assignment operator (6.5.16).
-#[derive(Clone, Copy, Debug, PartialEq, Eq)]
+#[derive(Clone, Copy, PartialEq, Eq)]
 pub enum AssignOperator {
     Assign,
     Add,

@@ -1,4 +1,4 @@
-//! PostfixOperator operators, each one deeper than the one before.
+//! Postfix operators, each one deeper than the one before.
 
 ghost use Rattle.std.specs.Prelude.{◌≡◌, ◌<◌, ◌≤◌, length, IfOk};
 ghost use Rattle.kt_grammar.specs.Cursor.{Gives};
@@ -7,7 +7,7 @@ ghost use Rattle.kt_grammar.specs.Reading.{deeper, more_at, postfix_at};
 ghost use Rattle.kt_grammar.specs.Heads.{postfix_of, postfix_here, field_at, arrow_at, once_at};
 
 use super::cursor::{behind, behind_first, name};
-use super::fault::Fault;
+use super::fault::{Fault, beside};
 use super::levels::deep;
 use super::node::{element, member, pointed, stepped};
 use super::operator::{Dialect, StepOperator};
@@ -18,7 +18,7 @@ use super::tree::Expr;
 use std::alloc::Global;
 
 /// A postfix operator.
-#[derive(Clone, Copy, Debug)]
+#[derive(Clone, Copy)]
 pub(crate) enum PostfixOperator {
     Index,
     Field,
@@ -86,6 +86,7 @@ fn last<'t>(dialect: Dialect, x: Expr, symbols: &'t [Symbol]) -> Result<(Expr, &
     ensures shorter { IfOk result (λ x. length x.1.now ≤ length symbols.now) }
 {
     if postfix_here(dialect, symbols).is_some() {
+        drop(x);
         Err(Fault::TooDeep(symbols.len()))
     } else {
         Ok((x, symbols))
@@ -108,8 +109,8 @@ fn once<'t>(
 {
     match operator {
         PostfixOperator::Index => {
-            let (index, rest) = deep(alloc, dialect, depth, 0, symbols)?;
-            let rest = behind(Sign::CloseBracket, rest)?;
+            let (x, (index, rest)) = beside(x, deep(alloc, dialect, depth, 0, symbols))?;
+            let ((x, index), rest) = beside((x, index), behind(Sign::CloseBracket, rest))?;
             let x = element(alloc, x, index)?;
             Ok((x, rest))
         }
@@ -128,7 +129,7 @@ fn field(alloc: Global, x: Expr, symbols: &[Symbol]) -> Result<(Expr, &[Symbol])
     ensures read { Gives (λ y. (term_of y.0, y.1.now)) result (field_at (term_of x) symbols.now) }
     ensures shorter { IfOk result (λ x. length x.1.now ≤ length symbols.now) }
 {
-    let (field, rest) = name(symbols)?;
+    let (x, (field, rest)) = beside(x, name(symbols))?;
     let x = member(alloc, x, field)?;
     Ok((x, rest))
 }
@@ -139,7 +140,7 @@ fn arrow(alloc: Global, x: Expr, symbols: &[Symbol]) -> Result<(Expr, &[Symbol])
     ensures read { Gives (λ y. (term_of y.0, y.1.now)) result (arrow_at (term_of x) symbols.now) }
     ensures shorter { IfOk result (λ x. length x.1.now ≤ length symbols.now) }
 {
-    let (field, rest) = name(symbols)?;
+    let (x, (field, rest)) = beside(x, name(symbols))?;
     let x = pointed(alloc, x, field)?;
     Ok((x, rest))
 }

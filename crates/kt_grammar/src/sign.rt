@@ -1,5 +1,5 @@
 /// A sign (ISO/IEC 9899:2011, 6.4.6; `::` is of rule files).
-#[derive(Clone, Copy, Debug, PartialEq, Eq)]
+#[derive(Clone, Copy, PartialEq, Eq)]
 pub enum Sign {
     OpenBrace,
     CloseBrace,

@@ -5,7 +5,7 @@ use kt_lex::Number;
 use sqlite_items::Items;
 
 /// A token with what it stands for, and the place of its first byte.
-#[derive(Debug, Drop)]
+#[derive(Drop)]
 pub enum Symbol {
     Name(u32, Word),
     Keyword(u32, Keyword),

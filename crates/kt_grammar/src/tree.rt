@@ -5,14 +5,14 @@ use kt_lex::Number;
 use sqlite_items::{Boxed, Items};
 
 /// An identifier where it stands.
-#[derive(Debug, Drop)]
+#[derive(Drop)]
 pub struct Name {
     pub at: u32,
     pub word: Word,
 }
 
 /// A type without stars and brackets.
-#[derive(Debug, Drop)]
+#[derive(Drop)]
 pub enum Base {
     Char,
     Int,
@@ -22,14 +22,14 @@ pub enum Base {
 }
 
 /// A type name in a cast or `sizeof`: a base and how many stars follow.
-#[derive(Debug, Drop)]
+#[derive(Drop)]
 pub struct TypeName {
     pub base: Base,
     pub stars: usize,
 }
 
 /// An expression (ISO/IEC 9899:2011, 6.5). The number is the place of its first token, where no part of it begins there.
-#[derive(Debug, Drop)]
+#[derive(Drop)]
 pub enum Expr {
     Number(u32, Number),
     Character(u32, u8),

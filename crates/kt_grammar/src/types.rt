@@ -5,7 +5,7 @@ ghost use Rattle.kt_grammar.specs.Cursor.{Gives};
 ghost use Rattle.kt_grammar.specs.Reading.{begins_base, behind_const, bare_base_at, base_at, type_at, between_at};
 
 use super::cursor::{behind, count_sign, name};
-use super::fault::Fault;
+use super::fault::{Fault, beside};
 use super::keyword::Keyword;
 use super::sign::Sign;
 use super::symbol::Symbol;
@@ -85,6 +85,5 @@ pub(crate) fn between(symbols: &[Symbol]) -> Result<(TypeName, &[Symbol]), Fault
 {
     let inner = behind(Sign::OpenParenthesis, symbols)?;
     let (type_name, rest) = type_name(inner)?;
-    let rest = behind(Sign::CloseParenthesis, rest)?;
-    Ok((type_name, rest))
+    beside(type_name, behind(Sign::CloseParenthesis, rest))
 }

@@ -7,7 +7,7 @@ ghost use Rattle.kt_grammar.specs.Reading.{deeper, level_at, arguments_at, unary
 ghost use Rattle.kt_grammar.specs.Heads.{front_of, behind_head};
 
 use super::cursor::{begins_sign, behind, behind_first};
-use super::fault::Fault;
+use super::fault::{Fault, beside};
 use super::head::{Head, apply, enclose, front};
 use super::levels::{deep, level, stuck};
 use super::node::called;
@@ -50,17 +50,23 @@ fn behind_head<'t>(
     match head {
         Head::Whole(x) => postfix(alloc, dialect, depth, x, symbols),
         Head::Call(name) => {
-            let (arguments, rest) = arguments(alloc, dialect, depth, symbols)?;
+            let (name, (arguments, rest)) = beside(
+                name,
+                arguments(alloc, dialect, depth, symbols),
+            )?;
             postfix(alloc, dialect, depth, called(name, arguments), rest)
         }
         Head::Enclosing(enclosing) => {
             let (a, rest) = deep(alloc, dialect, depth, 0, symbols)?;
-            let rest = behind(Sign::CloseParenthesis, rest)?;
+            let (a, rest) = beside(a, behind(Sign::CloseParenthesis, rest))?;
             let x = enclose(alloc, enclosing, a)?;
             postfix(alloc, dialect, depth, x, rest)
         }
         Head::Prefixing(prefixing) => {
-            let (a, rest) = deep(alloc, dialect, depth, 8, symbols)?;
+            let (prefixing, (a, rest)) = beside(
+                prefixing,
+                deep(alloc, dialect, depth, 8, symbols),
+            )?;
             let x = apply(alloc, prefixing, a)?;
             Ok((x, rest))
         }

@@ -6,7 +6,7 @@ use std::alloc::AllocError;
 use std::marker::Model;
 
 /// An identifier: a letter or underscore, then letters, digits and underscores, and no keyword (ISO/IEC 9899:2011, 6.4.2).
-#[derive(Debug, Drop)]
+#[derive(Drop)]
 pub struct Word {
     bytes: Vec<u8>,
 }

@@ -12,7 +12,7 @@ use std::alloc::{AllocError, Global};
 use std::marker::Model;
 
 /// Heap objects: an address is the object's heap number.
-#[derive(Debug, Drop)]
+#[derive(Drop)]
 pub struct ByAddress {
     // The first heap number that an allocation takes.
     first: u64,

@@ -28,7 +28,7 @@ const LIVE_LIMIT: u64 = 4_194_304;
 /// Globals, literals and heap objects.
 ///
 /// An address of a heap object is given out once.
-#[derive(Debug, Drop)]
+#[derive(Drop)]
 pub struct Heap {
     globals: Slots,
     literals: Literals,

@@ -14,6 +14,3 @@ mod slots;
 pub use faults::AllocFault;
 pub use heap::Heap;
 pub use object::Obj;
-
-#[cfg(test)]
-mod tests;

@@ -9,7 +9,7 @@ use std::alloc::{AllocError, Global};
 use std::marker::Model;
 
 /// For each version, the places of its literals.
-#[derive(Debug, Drop)]
+#[derive(Drop)]
 pub struct Literals {
     versions: Vec<Slots>,
 }
@@ -61,10 +61,7 @@ fn make_versions(versions: &mut Vec<Slots>, version: usize) -> Result<(), AllocE
 {
     let alloc = *versions.allocator();
     while versions.len() <= version {
-        match versions.push(Slots::new(alloc)) {
-            Ok(()) => {}
-            Err(_) => return Err(AllocError),
-        }
+        versions.push(Slots::new(alloc))?;
     }
     Ok(())
 }

@@ -9,7 +9,7 @@ use std::alloc::{AllocError, Global};
 
 /// An object: the place of its element type in the table of types, its count of elements, its heap number, which is 0
 /// for an object that is not on the heap, and its cells.
-#[derive(Debug, Drop)]
+#[derive(Drop)]
 pub struct Obj {
     pub ty: u32,
     pub count: u32,

@@ -11,7 +11,7 @@ use std::alloc::{AllocError, Global};
 use std::marker::Model;
 
 /// Places from 0 on.
-#[derive(Debug, Drop)]
+#[derive(Drop)]
 pub struct Slots {
     items: Vec<Option<Obj>>,
 }
@@ -57,10 +57,8 @@ impl Slots {
         ensures ok { OnOk result (self.new ≡ self.old ++ Some obj ∷ []) }
         ensures err { OnErr result (self.new ≡ self.old) }
     {
-        match self.items.push(Some(obj)) {
-            Ok(()) => Ok(()),
-            Err(_) => Err(AllocError),
-        }
+        self.items.push(Some(obj))?;
+        Ok(())
     }
 
     /// Puts an object at a place. Where there is no such place yet, it makes the places up to it.
@@ -75,10 +73,8 @@ impl Slots {
             return Ok(());
         }
         pad(&mut self.items, place)?;
-        match self.items.push(Some(obj)) {
-            Ok(()) => Ok(()),
-            Err(_) => Err(AllocError),
-        }
+        self.items.push(Some(obj))?;
+        Ok(())
     }
 
     /// Writes a cell of the object at a place, with the traps of `Obj::value`, and `dead` where there is no object.
@@ -116,10 +112,7 @@ fn pad(items: &mut Vec<Option<Obj>>, count: usize) -> Result<(), AllocError>
 {
     items.reserve(count - items.len())?;
     while items.len() < count {
-        match items.push(None) {
-            Ok(()) => {}
-            Err(_) => return Err(AllocError),
-        }
+        items.push(None)?;
     }
     Ok(())
 }

@@ -1,13 +1,13 @@
 -- A file that has tokens is cut into gaps and spellings.
-use Rattle.std.proofs.Common.{◌≡◌, ℕ, ◌+◌, ◌<◌, ◌≤◌, zero, suc, List, [], ◌∷◌, ◌++◌, length, take, drop, Result, Ok, Err, sym, refl, ap, ◌∙◌, subst, arith, take-append-drop, length-take-le, length-drop}
-use Rattle.std.specs.List.{flat_map, AllByRecursion}
+use Rattle.std.proofs.Common.{◌≡◌, ℕ, ◌+◌, ◌<◌, ◌≤◌, zero, suc, List, [], ◌∷◌, ◌++◌, length, take, drop, Result, Ok, Err, sym, refl, ap, ◌∙◌, subst, arith, append-nil, take-append-drop, length-take-le, length-drop}
+use Rattle.std.specs.List.{flat_map}
 use Rattle.std.proofs.lemmas.List.Concat.{flat_map-cons}
 use Rattle.kt_lex.specs.declared.token.Token.{Token}
 use Rattle.kt_lex.specs.declared.token.LexFault.{LexFault}
 use Rattle.kt_lex.specs.declared.front.Piece.{Piece}
 use Rattle.kt_lex.specs.declared.front.Piece.TheVariants.{Gap, Word}
 use Rattle.kt_lex.specs.Tokens.{line_after, is_indented, front, size_of, token_of, behind, tokens_behind, tokens_of}
-use Rattle.kt_lex.specs.Cover.{Part, IsPart, spelling_of, token_at, tokens_at, TokensAreCut}
+use Rattle.kt_lex.specs.Cover.{Part, IsPart, AreParts, spelling_of, token_at, tokens_at, TokensAreCut}
 use Rattle.kt_lex.proofs.Fronts.{part_of, IsPieceOf, front-is}
 use Rattle.kt_lex.proofs.Reading.{tokens_behind-front, tokens_behind-fault, tokens_behind-nil}
 
@@ -15,7 +15,7 @@ use Rattle.kt_lex.proofs.Reading.{tokens_behind-front, tokens_behind-fault, toke
 record IsCutBehind (before rest : List ℕ) (tokens : List Token) : Type 0 where
   parts : List Part
   joined : flat_map spelling_of parts ≡ rest
-  each : AllByRecursion IsPart parts
+  each : AreParts before parts []
   listed : tokens_at before parts ≡ tokens
 
 pub spelling_of-part : (piece : Piece) (spelling : List ℕ) → spelling_of (part_of piece spelling) ≡ spelling
@@ -41,15 +41,24 @@ nothing_left before tokens h = record {
   listed = ok_is [] tokens (sym (tokens_behind-nil before) ∙ h);
 }
 
+-- a piece is a part before those behind it
+pub part_before : (before rest : List ℕ) (piece : Piece) (parts : List Part) (after : List ℕ) → IsPieceOf before rest piece
+    → flat_map spelling_of parts ++ after ≡ drop (size_of piece) rest → AreParts (before ++ take (size_of piece) rest) parts after
+    → AreParts before (part_of piece (take (size_of piece) rest) ∷ parts) after
+part_before before rest piece parts after is_piece joined each = (
+  subst (IsPart before (part_of piece (take (size_of piece) rest))) (sym joined) is_piece.part,
+  subst (λ l. AreParts (before ++ l) parts after) (sym (spelling_of-part piece (take (size_of piece) rest))) each,
+)
+
 -- a part, and the parts behind it
-more_parts : (before rest : List ℕ) (piece : Piece) (more : List Token) → IsPieceOf rest piece → IsCutBehind (before ++ take (size_of piece) rest) (drop (size_of piece) rest) more → IsCutBehind before rest (token_of before piece ++ more)
+more_parts : (before rest : List ℕ) (piece : Piece) (more : List Token) → IsPieceOf before rest piece → IsCutBehind (before ++ take (size_of piece) rest) (drop (size_of piece) rest) more → IsCutBehind before rest (token_of before piece ++ more)
 more_parts before rest piece more is_piece cut =
     let spelling = take (size_of piece) rest in
     let part = part_of piece spelling in
     record {
       parts = part ∷ cut.parts;
       joined = flat_map-cons spelling_of part cut.parts ∙ ap (λ l. l ++ flat_map spelling_of cut.parts) (spelling_of-part piece spelling) ∙ ap (λ l. spelling ++ l) cut.joined ∙ take-append-drop (size_of piece) rest;
-      each = (is_piece.part, cut.each);
+      each = part_before before rest piece cut.parts [] is_piece (append-nil (flat_map spelling_of cut.parts) ∙ cut.joined) cut.each;
       listed =
           ap (λ l. l ++ tokens_at (before ++ spelling_of part) cut.parts) (token_at-part before piece spelling (length-take-le (size_of piece) rest is_piece.within))
           ∙ ap (λ l. token_of before piece ++ tokens_at (before ++ l) cut.parts) (spelling_of-part piece spelling)
@@ -74,7 +83,7 @@ cut_behind (suc most) before (b ∷ rest) tokens short h =
     let some : 0 < length (b ∷ rest) = omega arith in
     let found = piece_at before (b ∷ rest) tokens some h _ refl in
     let piece = found.0 in
-    let is_piece = front-is (length before) (is_indented before) (b ∷ rest) piece some found.1 in
+    let is_piece = front-is before (b ∷ rest) piece some found.1 in
     let less : length (drop (size_of piece) (b ∷ rest)) ≤ most = omega (arith, is_piece.positive, length-drop (size_of piece) (b ∷ rest)) in
     let read = read_on_is (token_of before piece) _ tokens (sym (tokens_behind-front before (b ∷ rest) piece some is_piece.positive found.1) ∙ h) in
     let cut = cut_behind most (before ++ take (size_of piece) (b ∷ rest)) (drop (size_of piece) (b ∷ rest)) read.0 less read.1 in

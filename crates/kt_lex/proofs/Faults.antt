@@ -2,7 +2,7 @@
 use Rattle.std.proofs.Common.{◌≡◌, ℕ, ◌+◌, ◌<◌, ◌≤◌, zero, suc, Bool, true, false, cond, eqb, ◌⊎◌, inl, inr, List, [], ◌∷◌, ◌++◌, length, take, drop, Option, Some, None, Result, Ok, Err, sym, refl, ap, ◌∙◌, subst, arith, append_assoc, append-nil, take-append-drop, length-drop}
 use Rattle.std.specs.Prelude.{nat_eq, codes, slice_index}
 use Rattle.std.specs.Option.{is_some}
-use Rattle.std.specs.List.{starts_with, flat_map, AllByRecursion}
+use Rattle.std.specs.List.{starts_with, flat_map}
 use Rattle.std.specs.Char.{is_ascii_digit}
 use Rattle.std.proofs.lemmas.Bool.{eqb-true}
 use Rattle.std.proofs.lemmas.List.Concat.{flat_map-cons}
@@ -19,11 +19,11 @@ use Rattle.kt_lex.specs.Words.{word_length, is_among, rule_words, sign_length}
 use Rattle.kt_lex.specs.Numbers.{number_value}
 use Rattle.kt_lex.specs.Quotes.{character_in, bytes_in}
 use Rattle.kt_lex.specs.Tokens.{is_indented, comment, directive, number, name, rule_word, quoted, sign, front, size_of, if_closed, token_of, behind, tokens_behind, tokens_of}
-use Rattle.kt_lex.specs.Cover.{Part, IsPart, spelling_of, IsFault, FaultsAreThere}
+use Rattle.kt_lex.specs.Cover.{Part, AreParts, spelling_of, is_opening, IsFault, FaultsAreThere}
 use Rattle.kt_lex.proofs.Signs.{chosen}
 use Rattle.kt_lex.proofs.Fronts.{part_of, IsPieceOf, front-is}
 use Rattle.kt_lex.proofs.Reading.{tokens_behind-front, tokens_behind-fault, tokens_behind-nil}
-use Rattle.kt_lex.proofs.Cuts.{spelling_of-part}
+use Rattle.kt_lex.proofs.Cuts.{spelling_of-part, part_before}
 
 fault_is : (x y : LexFault) → ◌≡◌ {A = Result Piece LexFault} (Err x) (Err y) → x ≡ y
 fault_is x y h = cc
@@ -73,10 +73,13 @@ rule_word_fault before bytes fault is_dollar h =
       | inr w ↦ subst (λ f. IsFault f before bytes) (fault_is (Byte (length before)) fault w.1) (refl, inr (inl (is_dollar, w.0)))
     ]
 
-sign_fault : (before bytes : List ℕ) (fault : LexFault) → is_blank (slice_index bytes 0) ≡ false → is_word_byte (slice_index bytes 0) ≡ false → sign (length before) bytes ≡ Err fault → IsFault fault before bytes
+not_opening : (b : ℕ) → eqb b hash ≡ false → eqb b dollar ≡ false → eqb b apostrophe ≡ false → eqb b double_quote ≡ false → is_opening b ≡ false
+not_opening b h d a q = rw (h, d, a, q)
+
+sign_fault : (before bytes : List ℕ) (fault : LexFault) → is_blank (slice_index bytes 0) ≡ false → is_word_byte (slice_index bytes 0) ≡ false → is_opening (slice_index bytes 0) ≡ false → sign (length before) bytes ≡ Err fault → IsFault fault before bytes
 unfolding sign
-sign_fault before bytes fault no_blank no_word h = elim (chosen {A = Result Piece LexFault} (eqb (sign_length bytes) 0) (Err (Byte (length before))) (Ok (Word Sign (sign_length bytes))) (Err fault) h) as (λ _. IsFault fault before bytes) [
-  | inl w ↦ subst (λ f. IsFault f before bytes) (fault_is (Byte (length before)) fault w.1) (refl, inr (inr (no_blank, no_word, eqb-true (sign_length bytes) 0 w.0)))
+sign_fault before bytes fault no_blank no_word none_opens h = elim (chosen {A = Result Piece LexFault} (eqb (sign_length bytes) 0) (Err (Byte (length before))) (Ok (Word Sign (sign_length bytes))) (Err fault) h) as (λ _. IsFault fault before bytes) [
+  | inl w ↦ subst (λ f. IsFault f before bytes) (fault_is (Byte (length before)) fault w.1) (refl, inr (inr (no_blank, no_word, none_opens, eqb-true (sign_length bytes) 0 w.0)))
   | inr w ↦ absurd (no_piece fault (Word Sign (sign_length bytes)) w.1)
 ]
 
@@ -118,7 +121,7 @@ front-fault before bytes fault h =
                     | inl w ↦ character_fault before bytes fault (eqb-true b apostrophe w.0) w.1
                     | inr w8 ↦ elim (chosen {A = Result Piece LexFault} (eqb b double_quote) _ (sign at bytes) (Err fault) w8.1) as (λ _. P) [
                       | inl w ↦ string_fault before bytes fault (eqb-true b double_quote w.0) w.1
-                      | inr w ↦ sign_fault before bytes fault w1.0 w6.0 w.1
+                      | inr w ↦ sign_fault before bytes fault w1.0 w6.0 (not_opening b w4.0 w7.0 w8.0 w.0) w.1
                     ]
                   ]
                 ]
@@ -134,7 +137,7 @@ record IsStoppedBehind (before rest : List ℕ) (fault : LexFault) : Type 0 wher
   parts : List Part
   left : List ℕ
   joined : flat_map spelling_of parts ++ left ≡ rest
-  each : AllByRecursion IsPart parts
+  each : AreParts before parts left
   found : 0 < length left
   why : IsFault fault (before ++ flat_map spelling_of parts) left
 
@@ -148,7 +151,7 @@ stopped_here before rest fault found why = record {
   why = subst (λ l. IsFault fault l rest) (sym (append-nil before)) why;
 }
 
-more_before : (before rest : List ℕ) (piece : Piece) (fault : LexFault) → IsPieceOf rest piece → IsStoppedBehind (before ++ take (size_of piece) rest) (drop (size_of piece) rest) fault → IsStoppedBehind before rest fault
+more_before : (before rest : List ℕ) (piece : Piece) (fault : LexFault) → IsPieceOf before rest piece → IsStoppedBehind (before ++ take (size_of piece) rest) (drop (size_of piece) rest) fault → IsStoppedBehind before rest fault
 more_before before rest piece fault is_piece stop =
     let spelling = take (size_of piece) rest in
     let part = part_of piece spelling in
@@ -157,7 +160,7 @@ more_before before rest piece fault is_piece stop =
       parts = part ∷ stop.parts;
       left = stop.left;
       joined = ap (λ l. l ++ stop.left) joined ∙ append_assoc spelling (flat_map spelling_of stop.parts) stop.left ∙ ap (λ l. spelling ++ l) stop.joined ∙ take-append-drop (size_of piece) rest;
-      each = (is_piece.part, stop.each);
+      each = part_before before rest piece stop.parts stop.left is_piece stop.joined stop.each;
       found = stop.found;
       why = subst (λ l. IsFault fault l stop.left) (append_assoc before spelling (flat_map spelling_of stop.parts) ∙ ap (λ l. before ++ l) (sym joined)) stop.why;
     }
@@ -173,13 +176,13 @@ same_fault x y h = cc
 -- at a front: it is the fault, or a piece stands there
 data Stop (before rest : List ℕ) (fault : LexFault) : Type 0 where
   Here : IsFault fault before rest → Stop before rest fault
-  Later : (piece : Piece) → IsPieceOf rest piece → tokens_behind (before ++ take (size_of piece) rest) 0 (drop (size_of piece) rest) ≡ Err fault → Stop before rest fault
+  Later : (piece : Piece) → IsPieceOf before rest piece → tokens_behind (before ++ take (size_of piece) rest) 0 (drop (size_of piece) rest) ≡ Err fault → Stop before rest fault
 
 stop_at : (before rest : List ℕ) (fault : LexFault) → 0 < length rest → tokens_behind before 0 rest ≡ Err fault → (found : Result Piece LexFault) → front (length before) (is_indented before) rest ≡ found → Stop before rest fault
 stop_at before rest fault some h (Err f) is =
     Here (subst (λ f. IsFault f before rest) (same_fault f fault (sym (tokens_behind-fault before rest f some is) ∙ h)) (front-fault before rest f is))
 stop_at before rest fault some h (Ok piece) is =
-    let is_piece = front-is (length before) (is_indented before) rest piece some is in
+    let is_piece = front-is before rest piece some is in
     Later piece is_piece (behind_fault (token_of before piece) _ fault (sym (tokens_behind-front before rest piece some is_piece.positive is) ∙ h))
 
 stopped_behind : (most : ℕ) (before rest : List ℕ) (fault : LexFault) → length rest ≤ most → tokens_behind before 0 rest ≡ Err fault → IsStoppedBehind before rest fault

@@ -1,8 +1,10 @@
 pub mod Cuts
 pub mod Exact
+pub mod Exactly
 pub mod Faults
 pub mod Fronts
 pub mod Reading
 pub mod Rules
 pub mod Scans
 pub mod Signs
+pub mod Takes

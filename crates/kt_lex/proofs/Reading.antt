@@ -8,6 +8,7 @@ use Rattle.kt_lex.specs.declared.front.Piece.{Piece}
 use Rattle.kt_lex.specs.declared.front.Piece.TheVariants.{Gap, Word}
 use Rattle.kt_lex.specs.declared.scan.Place.{Place}
 use Rattle.kt_lex.specs.Bytes.{is_newline}
+use Rattle.kt_lex.proofs.Fronts.{IsPieceOf, front-is}
 use Rattle.kt_lex.specs.Tokens.{line_after, indents_after, is_indented, front, size_of, token_of, behind, read_on, tokens_behind, tokens_of}
 
 -- what is read behind a front: the bytes of the front are passed first
@@ -39,11 +40,11 @@ pub tokens_behind-nil : (before : List ℕ) → tokens_behind before 0 [] ≡ Ok
 unfolding tokens_behind
 tokens_behind-nil before = refl
 
-behind-behind : (xs ys : List Token) (read : Result (List Token) LexFault) → behind xs (behind ys read) ≡ behind (xs ++ ys) read
+pub behind-behind : (xs ys : List Token) (read : Result (List Token) LexFault) → behind xs (behind ys read) ≡ behind (xs ++ ys) read
 behind-behind xs ys (Ok zs) = ap (λ l. Ok l) (sym (append_assoc xs ys zs))
 behind-behind xs ys (Err fault) = refl
 
-behind-nil : (read : Result (List Token) LexFault) → behind [] read ≡ read
+pub behind-nil : (read : Result (List Token) LexFault) → behind [] read ≡ read
 behind-nil (Ok zs) = refl
 behind-nil (Err fault) = refl
 
@@ -87,6 +88,11 @@ front-here bytes place tokens rest is_read =
     let at = sym is_read.at in
     let indented = sym is_read.indented in
     λ i. front (at i) (indented i) rest
+
+-- what is read there is a gap, or a spelling of its kind
+pub IsRead-piece : (bytes : List ℕ) (place : Place) (tokens : List Token) (rest : List ℕ) (piece : Piece) (is_read : IsRead bytes place tokens rest) → 0 < length rest → front place.at place.indented rest ≡ Ok piece → IsPieceOf is_read.before rest piece
+IsRead-piece bytes place tokens rest piece is_read found is_front =
+    front-is is_read.before rest piece found (front-here bytes place tokens rest is_read ∙ is_front)
 
 pub IsRead-fault : (bytes : List ℕ) (place : Place) (tokens : List Token) (rest : List ℕ) (fault : LexFault) → IsRead bytes place tokens rest → 0 < length rest → front place.at place.indented rest ≡ Err fault → tokens_of bytes ≡ Err fault
 IsRead-fault bytes place tokens rest fault is_read found is_fault =

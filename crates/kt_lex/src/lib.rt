@@ -8,8 +8,6 @@ mod laws;
 mod number;
 mod quote;
 mod scan;
-#[cfg(test)]
-mod tests;
 mod token;
 mod word;
 

@@ -4,12 +4,11 @@ ghost use Rattle.std.specs.Prelude.{◌≡◌, MatchOption, None, Some};
 ghost use Rattle.kt_world.specs.Job as plain_job;
 ghost use Rattle.kt_world.specs.Plain.{job_of};
 
-use crate::entry::enter_main;
+use crate::entry::settled_main;
 use crate::first_heap::first_heap;
 use crate::globals::{kept_values, new_point};
 use crate::machine::{Machine, Standing, in_force};
-use kt_code::Head;
-use kt_exec::settle;
+use kt_code::{Head, Private};
 use kt_mem::{Act, Mode, Reply};
 use kt_pair::Compiled;
 use kt_tree::Version;
@@ -122,8 +121,8 @@ impl Machine {
         ensures thread { self.new ≡ record self.old { shared = self.new.shared } }
     {
         let version = self.shared.version() + 1;
-        let heap = first_heap(alloc, version, new, self.shared.outside().heap().next())?;
         let kept = kept_values(alloc, old, self.shared.outside().heap(), new)?;
+        let heap = first_heap(alloc, version, new, self.shared.outside().heap().next())?;
         self.shared.mark_updated(heap, kept)
     }
 
@@ -150,10 +149,18 @@ impl Machine {
         self.update(alloc, old, new)?;
         let version = self.shared.version();
         let compiled = in_force(codes, version);
-        self.private = enter_main(alloc, version, compiled, Mode::Updating(point))?;
-        self.head = settle(alloc, compiled.code(), &mut self.private)?;
-        self.standing = Standing::Live;
+        let (private, head) = settled_main(alloc, version, compiled, Mode::Updating(point))?;
+        self.begin(private, head);
         Ok(())
+    }
+
+    // The thread stands there, and takes turns.
+    fn begin(&mut self, private: Private, head: Head)
+        ensures { self.new ≡ record { shared = self.old.shared; private = private; head = head; standing = Standing.Live } }
+    {
+        self.private = private;
+        self.head = head;
+        self.standing = Standing::Live;
     }
 
     // The refusal: the thread goes on past its point.

@@ -9,7 +9,7 @@ use kt_types::TypeTable;
 use std::alloc::{AllocError, Global};
 
 /// What becomes of an act.
-#[derive(Clone, Copy, PartialEq, Eq, Debug)]
+#[derive(Clone, Copy)]
 pub enum Outcome {
     /// This reply.
     Replies(Reply),

@@ -3,24 +3,21 @@ ghost use Rattle.std.specs.Prelude.{◌≡◌, [], Some, IfOk, slice_get};
 ghost use Rattle.std.specs.Option.{option_map};
 ghost use Rattle.kt_tree.specs.Tree.{function_of};
 ghost use Rattle.kt_meaning.specs.ThreadTypes.{IsMode};
-ghost use Rattle.kt_code.specs.Settling.{Fits};
+ghost use Rattle.kt_code.specs.Machine.{step};
+ghost use Rattle.kt_code.specs.Settling.{Fits, head_of, settle};
 ghost use Rattle.kt_pair.specs.VersionActs.{entry_state};
 ghost use Rattle.kt_world.specs.Turn.{main_of, restart_in};
 ghost use Rattle.kt_machine.specs.Engine.{code_entry, no_frames};
 
-use kt_code::{Code, Frame, Frames, Operands, Private};
+use kt_code::{Code, Frame, Frames, Head, Operands, Private};
+use kt_exec::settle;
 use kt_mem::{KeptLocals, Mode, Value, Values};
 use kt_pair::{Compiled, compiled_law};
 use kt_tree::{Fun, Version, version_law};
 use std::alloc::{AllocError, Global};
 
 /// The state at which `main` of version `v` begins in this mode.
-pub fn enter_main(
-    alloc: Global,
-    v: u8,
-    compiled: &Compiled,
-    mode: Mode,
-) -> Result<Private, AllocError>
+fn enter_main(alloc: Global, v: u8, compiled: &Compiled, mode: Mode) -> Result<Private, AllocError>
     requires mode { IsMode compiled.now.program mode }
     ensures entry { IfOk result (λ p. p ≡ code_entry v mode (Some compiled.now)) }
     ensures fits { IfOk result (λ p. Fits compiled.now.code p) }
@@ -33,6 +30,28 @@ pub fn enter_main(
     match entry(compiled.code(), number) {
         Some(at) => entry_state(alloc, v, at, number, function, mode),
         None => Ok(no_frames(alloc, v, mode)),
+    }
+}
+
+/// The state to which a thread settles that begins with `main` of version `v` in this mode, and what it stands at.
+pub fn settled_main(
+    alloc: Global,
+    v: u8,
+    compiled: &Compiled,
+    mode: Mode,
+) -> Result<(Private, Head), AllocError>
+    requires mode { IsMode compiled.now.program mode }
+    ensures stands { IfOk result (λ p. p.0 ≡ settle compiled.now.code (code_entry v mode (Some compiled.now))) }
+    ensures head { IfOk result (λ p. head_of (step compiled.now.code p.0) ≡ Some p.1) }
+    ensures fits { IfOk result (λ p. Fits compiled.now.code p.0) }
+{
+    let mut private = enter_main(alloc, v, compiled, mode)?;
+    match settle(alloc, compiled.code(), &mut private) {
+        Ok(head) => Ok((private, head)),
+        Err(fault) => {
+            drop(private);
+            Err(fault)
+        }
     }
 }
 

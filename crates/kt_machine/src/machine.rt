@@ -1,16 +1,15 @@
 //! The machine: it takes the turns of thread 0.
 
-ghost use Rattle.std.specs.Prelude.{◌≡◌, ◌<◌, IfOk, Some, length, slice_get};
+ghost use Rattle.std.specs.Prelude.{◌≡◌, ◌<◌, IfOk, Ok, Some, length, slice_get};
 ghost use Rattle.kt_world.specs.Plain.{job_of};
 ghost use Rattle.kt_world.specs.Turn as plain_turn;
 ghost use Rattle.kt_machine.specs.Engine.{code_engine, world_of, AreCodesOf, IsSettled};
 
-use crate::entry::enter_main;
+use crate::entry::settled_main;
 use crate::first_heap::first_heap;
 use crate::outside::Outside;
 use crate::shared::Shared;
 use kt_code::{Head, Private};
-use kt_exec::settle;
 use kt_mem::Mode;
 use kt_pair::Compiled;
 use kt_world::job::Job;
@@ -18,7 +17,7 @@ use kt_world::mark::{End, Mark};
 use std::alloc::{AllocError, Global};
 
 /// Whether the thread takes turns.
-#[derive(Clone, Copy, PartialEq, Eq, Debug)]
+#[derive(Clone, Copy)]
 pub enum Standing {
     Live,
     /// It waits at its point for the closing.
@@ -60,8 +59,13 @@ impl Machine {
         ensures settled { IfOk result (λ machine. IsSettled codes.now machine) }
     {
         let mut machine = start(alloc, job, codes)?;
-        machine.before_turn(job, codes)?;
-        Ok(machine)
+        match machine.before_turn(job, codes) {
+            Ok(()) => Ok(machine),
+            Err(fault) => {
+                drop(machine);
+                Err(fault)
+            }
+        }
     }
 
     /// How the run has ended.
@@ -83,7 +87,13 @@ impl Machine {
         ensures output { result.0.items ≡ self.shared.outside.output }
         ensures marks { result.1.items ≡ self.shared.marks }
     {
-        let Machine { shared, .. } = self;
+        let Machine {
+            shared,
+            private,
+            head,
+            standing: _,
+        } = self;
+        drop((private, head));
         shared.into_output_and_marks()
     }
 
@@ -126,6 +136,19 @@ impl Machine {
     }
 }
 
+/// What both calls made, or want of memory.
+fn both<A: Drop, B: Drop>(
+    a: Result<A, AllocError>,
+    b: Result<B, AllocError>,
+) -> Result<(A, B), AllocError>
+    ensures { IfOk result (λ p. (a ≡ Ok p.0) × (b ≡ Ok p.1)) }
+{
+    match (a, b) {
+        (Ok(a), Ok(b)) => Ok((a, b)),
+        _ => Err(AllocError),
+    }
+}
+
 /// Before anything is tried: `main` stands at its first act, trap or end.
 fn start(alloc: Global, job: &Job, codes: &[Compiled]) -> Result<Machine, AllocError>
     requires codes { AreCodesOf (job_of job.now) codes.now }
@@ -136,11 +159,12 @@ fn start(alloc: Global, job: &Job, codes: &[Compiled]) -> Result<Machine, AllocE
     ensures version { IfOk result (λ machine. machine.shared.version ≡ 0) }
 {
     let first = in_force(codes, 0);
-    let heap = first_heap(alloc, 0, first.version(), 0)?;
     let input = Vec::from_slice(alloc, job.input.as_bytes())?;
     let after = Vec::from_slice(alloc, job.after.as_slice())?;
-    let mut private = enter_main(alloc, 0, first, Mode::Normal)?;
-    let head = settle(alloc, first.code(), &mut private)?;
+    let ((private, head), heap) = both(
+        settled_main(alloc, 0, first, Mode::Normal),
+        first_heap(alloc, 0, first.version(), 0),
+    )?;
     Ok(Machine {
         shared: Shared::new(alloc, Outside::new(alloc, heap, input), after),
         private,

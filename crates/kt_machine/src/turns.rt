@@ -33,7 +33,10 @@ pub fn take_turns(alloc: Global, job: &Job, codes: &[Compiled]) -> Result<Report
         if let Some(how) = machine.ended() {
             return Ok(report_of(machine, how));
         }
-        machine.turn(alloc, job, codes)?;
+        if let Err(fault) = machine.turn(alloc, job, codes) {
+            drop(machine);
+            return Err(fault);
+        }
     }
 }
 

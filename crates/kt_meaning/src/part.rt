@@ -5,7 +5,7 @@ use kt_tree::{Expr, Operation, Request, Stmt};
 use sqlite_items::Items;
 
 /// What the values of operands are for.
-#[derive(Debug, Drop)]
+#[derive(Drop)]
 pub enum Use {
     /// An operation, which gives a value of that type.
     Operates(Operation, u32),
@@ -16,7 +16,7 @@ pub enum Use {
 }
 
 /// What waits for a value.
-#[derive(Debug, Drop)]
+#[derive(Drop)]
 pub enum Waiting {
     /// Leaves it unused.
     Drops,
@@ -50,7 +50,7 @@ pub enum Waiting {
 }
 
 /// A part of the work that is left.
-#[derive(Debug, Drop)]
+#[derive(Drop)]
 pub enum Part {
     /// An expression, which will give a value.
     Eval(Expr),

@@ -6,7 +6,7 @@ use kt_mem::{KeptLocals, Mode, Values};
 use std::marker::Model;
 
 /// The work that is left to a frame, the next part first.
-#[derive(Debug, Drop)]
+#[derive(Drop)]
 pub struct Parts {
     items: Vec<Part>,
 }
@@ -48,7 +48,7 @@ impl Parts {
 }
 
 /// A call that is open: the number of the function, the values of its locals, and the work that is left.
-#[derive(Debug, Drop)]
+#[derive(Drop)]
 pub struct TreeFrame {
     pub function: u32,
     pub locals: Values,
@@ -56,7 +56,7 @@ pub struct TreeFrame {
 }
 
 /// The frames of a thread, the latest call first.
-#[derive(Debug, Drop)]
+#[derive(Drop)]
 pub struct TreeFrames {
     items: Vec<TreeFrame>,
 }
@@ -98,7 +98,7 @@ impl TreeFrames {
 }
 
 /// A thread of a version: its frames, its mode, and what an update kept for its locals.
-#[derive(Debug, Drop)]
+#[derive(Drop)]
 pub struct TreeThread {
     pub frames: TreeFrames,
     pub mode: Mode,

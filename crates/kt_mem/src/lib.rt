@@ -23,6 +23,3 @@ pub use laws::{
 pub use memory::{Cell, Cells, Name, Value, Values};
 pub use steps::{Act, Piece, Pieces, Reply, Trap};
 pub use thread::{KeptLocal, KeptLocals, Mode};
-
-#[cfg(test)]
-mod tests;

@@ -43,7 +43,7 @@ pub enum Value {
 }
 
 /// A scalar cell of an object: its type, which never changes, and what it holds.
-#[derive(Clone, Copy, Debug, PartialEq, Eq)]
+#[derive(Clone, Copy)]
 pub struct Cell {
     ty: Ty,
     stored: Stored,
@@ -51,7 +51,7 @@ pub struct Cell {
 
 /// A value as a cell keeps it: with one tag, where a `Value` that is a pointer has two. A pointer's offset comes first, so
 /// that it lies beside the tag.
-#[derive(Clone, Copy, Debug, PartialEq, Eq)]
+#[derive(Clone, Copy)]
 enum Stored {
     Num(i64),
     Null,
@@ -142,7 +142,7 @@ impl Stored {
 }
 
 /// A list of values, as the locals of a frame.
-#[derive(Debug, Drop)]
+#[derive(Drop)]
 pub struct Values {
     items: Vec<Value>,
 }
@@ -190,7 +190,7 @@ impl Clone for Values {
 }
 
 /// The cells of an object, in order.
-#[derive(Debug, Drop)]
+#[derive(Drop)]
 pub struct Cells {
     items: Vec<Cell>,
 }

@@ -59,7 +59,7 @@ pub enum Trap {
 }
 
 /// One step of a thread that touches what the threads share. It takes one turn.
-#[derive(Debug, Drop)]
+#[derive(Drop)]
 pub enum Act {
     /// A loop's turn, or a call of a function of the file.
     Tick,
@@ -117,7 +117,7 @@ pub enum Act {
 }
 
 /// A piece of output.
-#[derive(Debug, Drop)]
+#[derive(Drop)]
 pub enum Piece {
     /// These bytes.
     Bytes(Text),
@@ -133,7 +133,7 @@ pub enum Piece {
 }
 
 /// The pieces of one call that prints, in order.
-#[derive(Debug, Drop)]
+#[derive(Drop)]
 pub struct Pieces {
     items: Vec<Piece>,
 }
@@ -171,7 +171,7 @@ impl Pieces {
 }
 
 /// What a thread is told after its act.
-#[derive(Clone, Copy, Debug, PartialEq, Eq)]
+#[derive(Clone, Copy)]
 pub enum Reply {
     /// The act is done and gives no value.
     Done,

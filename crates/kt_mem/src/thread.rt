@@ -15,7 +15,7 @@ pub enum Mode {
 }
 
 /// The value that an update kept for a local.
-#[derive(Clone, Copy, Debug, PartialEq, Eq)]
+#[derive(Clone, Copy)]
 pub struct KeptLocal {
     pub function: u32,
     pub local: u32,
@@ -23,7 +23,7 @@ pub struct KeptLocal {
 }
 
 /// The kept values of a thread's locals.
-#[derive(Debug, Drop)]
+#[derive(Drop)]
 pub struct KeptLocals {
     items: Vec<KeptLocal>,
 }

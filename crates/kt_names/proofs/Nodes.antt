@@ -1,38 +1,11 @@
 -- What a typed expression is as plain data, made of its parts.
-use Rattle.std.proofs.Common.{◌≡◌, ℕ, Bool, Option, List, map, refl, ap, ◌∙◌}
-use denote.Hole.Carrier.{hidden}
+use Rattle.std.proofs.Common.{◌≡◌, ℕ, Option, List, map, refl, ap, ◌∙◌}
 use mathlib.Core.Former.{Count}
 use Rattle.kt_tree.specs.declared.expr.Operation.{Operation as Op}
 use Rattle.kt_tree.specs.declared.expr.Request.{Request as Req}
-use Rattle.kt_tree.specs.declared.expr.Expr.TheBlock.{hidden-the_row-Expr-0}
 use Rattle.kt_tree.specs.declared.expr.Expr.{Expr, Operation, Operation', Request, Request', Call, Call', Row_of-Expr, end_of-Expr, more_of-Expr, items-the_row-Expr, items_hidden-the_row-Expr-1}
-use Rattle.kt_tree.specs.declared.expr.Expr.TheVariants as expr
-use Rattle.kt_tree.specs.Tree.{LocalSet, LocalSwapped, Operated, Requested, Modified, Both, Either, Chosen, Called, More, expression_of, expressions_of_row}
+use Rattle.kt_tree.specs.Tree.{Operated, Requested, Called, More, expression_of, expressions_of_row}
 use Rattle.kt_names.specs.Views.{expressions_of}
-
-pub local_set-is : (x : ℕ) (a : Expr) → expression_of (expr.SetLocal x a) ≡ LocalSet x (expression_of a)
-unfolding hidden-the_row-Expr-0 hidden
-local_set-is x a = refl
-
-pub local_swapped-is : (x : ℕ) (a : Expr) → expression_of (expr.SwapLocal x a) ≡ LocalSwapped x (expression_of a)
-unfolding hidden-the_row-Expr-0 hidden
-local_swapped-is x a = refl
-
-pub modified-is : (op : Op) (own ty : ℕ) (old : Bool) (p a : Expr) → expression_of (expr.Modify op own ty old p a) ≡ Modified op own ty old (expression_of p) (expression_of a)
-unfolding hidden-the_row-Expr-0 hidden
-modified-is op own ty old p a = refl
-
-pub both-is : (a b : Expr) → expression_of (expr.And a b) ≡ Both (expression_of a) (expression_of b)
-unfolding hidden-the_row-Expr-0 hidden
-both-is a b = refl
-
-pub either-is : (a b : Expr) → expression_of (expr.Or a b) ≡ Either (expression_of a) (expression_of b)
-unfolding hidden-the_row-Expr-0 hidden
-either-is a b = refl
-
-pub chosen-is : (c : Expr) (ty : ℕ) (a b : Expr) → expression_of (expr.Choice c ty a b) ≡ Chosen (expression_of c) ty (expression_of a) (expression_of b)
-unfolding hidden-the_row-Expr-0 hidden
-chosen-is c ty a b = refl
 
 abbrev row_of : Expr → (n : Count) × Row_of-Expr n
 row_of (Operation' op ty p row) = (_, row)
@@ -65,4 +38,4 @@ called-is f args =
     let row = row_of (Call f args) in
     ap (Called f) (of_row row.0 row.1 ∙ ap (λ (xs : List Expr). expressions_of (map expression_of xs)) (items_hidden-the_row-Expr-1 args))
 
-pub ruleset nodes = (local_set-is, local_swapped-is, modified-is, both-is, either-is, chosen-is, operated-is, requested-is, called-is)
+pub ruleset nodes = (operated-is, requested-is, called-is)

@@ -4,7 +4,7 @@ use crate::ctype::CType;
 use kt_tree::Operation;
 
 /// An operation, and the type that it is done in.
-#[derive(Clone, Copy, Debug)]
+#[derive(Clone, Copy)]
 pub struct Combined {
     pub operation: Operation,
     pub own: CType,

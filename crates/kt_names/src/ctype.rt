@@ -9,7 +9,7 @@ use crate::fault::CheckFault;
 use kt_types::Ty;
 
 /// What a type is without its stars. A struct has a number, one for each name.
-#[derive(Clone, Copy, Debug, PartialEq, Eq, Hash)]
+#[derive(Clone, Copy, PartialEq, Eq, Hash)]
 pub enum Root {
     Char,
     Int,
@@ -19,7 +19,7 @@ pub enum Root {
 }
 
 /// A type of an expression: a root with so many stars. (Arrays are no types of expressions.)
-#[derive(Clone, Copy, Debug, PartialEq, Eq)]
+#[derive(Clone, Copy, PartialEq, Eq)]
 pub struct CType {
     pub root: Root,
     pub stars: usize,

@@ -11,7 +11,7 @@ use kt_grammar::Base;
 use kt_syntax::Pointer;
 
 /// What a field is: its type, of an array that of its elements.
-#[derive(Clone, Copy, Debug)]
+#[derive(Clone, Copy)]
 pub struct FieldInfo {
     pub ty: CType,
     pub array: bool,
@@ -26,7 +26,7 @@ pub struct StructInfo {
 }
 
 /// A field that was found by its name, with its number.
-#[derive(Clone, Copy, Debug)]
+#[derive(Clone, Copy)]
 pub struct FoundField {
     pub index: u32,
     pub ty: CType,
@@ -50,7 +50,7 @@ pub enum Outer {
 }
 
 /// A name that is in scope, the number of its local, and the place of the one of the same name that it hides.
-#[derive(Debug, Drop)]
+#[derive(Drop)]
 pub struct Visible {
     pub name: Vec<u8>,
     pub local: u32,

@@ -6,7 +6,7 @@ ghost use Rattle.kt_tree.specs.declared.expr.Request.TheVariants as request;
 ghost use Rattle.kt_tree.specs.Tree.{expression_of, LocalSet, LocalSwapped, Operated, Requested, Modified, Both, Either, Chosen, Called, NoMore, More};
 
 use kt_tree::{Expr, Operation, Request};
-use sqlite_items::{Boxed, Items};
+use sqlite_items::Items;
 use std::alloc::{AllocError, Global};
 
 /// A list of one operand.
@@ -22,10 +22,7 @@ pub(crate) fn one_of(alloc: Global, operand: Expr) -> Result<Items<Expr>, AllocE
 fn two_of(alloc: Global, left: Expr, right: Expr) -> Result<Items<Expr>, AllocError>
     ensures { IfOk result (λ items. items ≡ left ∷ right ∷ []) }
 {
-    let mut items = Items::new(alloc);
-    items.push(left)?;
-    items.push(right)?;
-    Ok(items)
+    Ok(Items::from_vec(vec![in alloc; left, right]?))
 }
 
 /// An operation on one operand.
@@ -75,8 +72,13 @@ pub fn requested_of(
 ) -> Result<Expr, AllocError>
     ensures { IfOk result (λ x. expression_of x ≡ Requested request ty (More (expression_of operand) NoMore)) }
 {
-    let operands = one_of(alloc, operand)?;
-    Ok(Expr::Request(request, ty, operands))
+    match one_of(alloc, operand) {
+        Ok(operands) => Ok(Expr::Request(request, ty, operands)),
+        Err(e) => {
+            drop(request);
+            Err(e)
+        }
+    }
 }
 
 /// A request of these operands.
@@ -105,25 +107,20 @@ pub fn stored(alloc: Global, ty: u32, pointer: Expr, value: Expr) -> Result<Expr
 }
 
 /// A value that a local takes.
-#[tactic(auto, using(crate::proofs::Nodes::nodes))]
 pub fn local_set(alloc: Global, local: u32, value: Expr) -> Result<Expr, AllocError>
     ensures { IfOk result (λ x. expression_of x ≡ LocalSet local (expression_of value)) }
 {
-    let value = Boxed::new(alloc, value)?;
-    Ok(Expr::SetLocal(local, value))
+    Expr::set_local(alloc, local, value)
 }
 
 /// A value that a local takes, for the one that it had.
-#[tactic(auto, using(crate::proofs::Nodes::nodes))]
 pub fn local_swapped(alloc: Global, local: u32, value: Expr) -> Result<Expr, AllocError>
     ensures { IfOk result (λ x. expression_of x ≡ LocalSwapped local (expression_of value)) }
 {
-    let value = Boxed::new(alloc, value)?;
-    Ok(Expr::SwapLocal(local, value))
+    Expr::swap_local(alloc, local, value)
 }
 
 /// A cell that takes the result of an operation on what it holds.
-#[tactic(auto, using(crate::proofs::Nodes::nodes))]
 pub fn modified(
     alloc: Global,
     operation: (Operation, u32),
@@ -135,33 +132,24 @@ pub fn modified(
     ensures { IfOk result (λ x. expression_of x ≡ Modified operation.0 operation.1 ty old (expression_of pointer) (expression_of operand)) }
 {
     let (operation, own) = operation;
-    let pointer = Boxed::new(alloc, pointer)?;
-    let operand = Boxed::new(alloc, operand)?;
-    Ok(Expr::Modify(operation, own, ty, old, pointer, operand))
+    Expr::modify(alloc, operation, own, ty, old, pointer, operand)
 }
 
 /// `left && right`
-#[tactic(auto, using(crate::proofs::Nodes::nodes))]
 pub fn both_hold(alloc: Global, left: Expr, right: Expr) -> Result<Expr, AllocError>
     ensures { IfOk result (λ x. expression_of x ≡ Both (expression_of left) (expression_of right)) }
 {
-    let left = Boxed::new(alloc, left)?;
-    let right = Boxed::new(alloc, right)?;
-    Ok(Expr::And(left, right))
+    Expr::and(alloc, left, right)
 }
 
 /// `left || right`
-#[tactic(auto, using(crate::proofs::Nodes::nodes))]
 pub fn either_holds(alloc: Global, left: Expr, right: Expr) -> Result<Expr, AllocError>
     ensures { IfOk result (λ x. expression_of x ≡ Either (expression_of left) (expression_of right)) }
 {
-    let left = Boxed::new(alloc, left)?;
-    let right = Boxed::new(alloc, right)?;
-    Ok(Expr::Or(left, right))
+    Expr::or(alloc, left, right)
 }
 
 /// `condition ? one : other`, of a type
-#[tactic(auto, using(crate::proofs::Nodes::nodes))]
 pub fn chosen(
     alloc: Global,
     condition: Expr,
@@ -171,10 +159,7 @@ pub fn chosen(
 ) -> Result<Expr, AllocError>
     ensures { IfOk result (λ x. expression_of x ≡ Chosen (expression_of condition) ty (expression_of one) (expression_of other)) }
 {
-    let condition = Boxed::new(alloc, condition)?;
-    let one = Boxed::new(alloc, one)?;
-    let other = Boxed::new(alloc, other)?;
-    Ok(Expr::Choice(condition, ty, one, other))
+    Expr::choice(alloc, condition, ty, one, other)
 }
 
 /// A call of a function.

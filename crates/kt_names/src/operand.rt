@@ -121,7 +121,9 @@ fn load(env: &Environment<'_>, t: CType, pointer: Expr) -> Result<Expr, CheckFau
 
 impl Operand {
     /// Lets the operand go.
-    pub fn let_go(self) {}
+    pub fn let_go(self) {
+        drop(self)
+    }
 
     /// The value of an operand that stands at `own` in an expression that begins at `up` (6.3.2.1). An array is a pointer
     /// to its first element; a struct or mutex has no value, nor has a call without a result.
@@ -143,12 +145,21 @@ impl Operand {
                 let expression = load(env, ty, pointer)?;
                 Ok(Value { ty, expression })
             }
-            Operand::ArrayPlace(ty, expression) => {
-                let ty = ty.pointer_to()?;
-                Ok(Value { ty, expression })
+            Operand::ArrayPlace(ty, expression) => match ty.pointer_to() {
+                Ok(ty) => Ok(Value { ty, expression }),
+                Err(fault) => {
+                    drop(expression);
+                    Err(fault)
+                }
+            },
+            Operand::WholePlace(_, gone) => {
+                drop(gone);
+                Err(CheckFault::BadType { at: own })
             }
-            Operand::WholePlace(_, _) => Err(CheckFault::BadType { at: own }),
-            Operand::NoResult(_) => Err(CheckFault::BadType { at: up }),
+            Operand::NoResult(gone) => {
+                drop(gone);
+                Err(CheckFault::BadType { at: up })
+            }
         }
     }
 
@@ -157,7 +168,10 @@ impl Operand {
         ensures { Judges value_of result (scalar (environment_of env.now) own up (operand_of self)) }
     {
         match self {
-            Operand::Null => Ok(null_text(env)),
+            Operand::Null => {
+                drop(self);
+                Ok(null_text(env))
+            }
             Operand::Valued(_, _) => self.value(env, own, up),
             Operand::Zero => self.value(env, own, up),
             Operand::LocalPlace(_, _) => self.value(env, own, up),
@@ -180,8 +194,14 @@ impl Operand {
         ensures { Judges expression_of result (convert (environment_of env.now) t own up (operand_of self)) }
     {
         match self {
-            Operand::Null => convert_null(env, t, up),
-            Operand::Zero => convert_zero(env, t, up),
+            Operand::Null => {
+                drop(self);
+                convert_null(env, t, up)
+            }
+            Operand::Zero => {
+                drop(self);
+                convert_zero(env, t, up)
+            }
             Operand::Valued(_, _) => self.converted(env, t, own, up),
             Operand::LocalPlace(_, _) => self.converted(env, t, own, up),
             Operand::CellPlace(_, _) => self.converted(env, t, own, up),
@@ -227,7 +247,9 @@ impl Operand {
 
 impl Value {
     /// Lets the value go.
-    pub fn let_go(self) {}
+    pub fn let_go(self) {
+        drop(self)
+    }
 
     /// The value, where it is an integer.
     fn integer(self, up: u32) -> Result<Value, CheckFault>
@@ -236,6 +258,7 @@ impl Value {
         if self.ty.is_integer() {
             Ok(self)
         } else {
+            drop(self);
             Err(CheckFault::BadType { at: up })
         }
     }
@@ -247,6 +270,7 @@ impl Value {
         if self.ty.is_pointer() {
             Ok(self)
         } else {
+            drop(self);
             Err(CheckFault::BadType { at: up })
         }
     }
@@ -273,6 +297,7 @@ impl Value {
         if t.is_pointer() && self.ty.is(t) {
             return Ok(self.expression);
         }
+        drop(self);
         Err(CheckFault::BadType { at: up })
     }
 }

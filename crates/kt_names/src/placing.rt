@@ -9,7 +9,7 @@ use indexmap::{IndexMap, IndexSet};
 use kt_types::Ty;
 
 /// A number of stars, and the place of a root's type with so many.
-#[derive(Clone, Copy, Debug)]
+#[derive(Clone, Copy)]
 pub(crate) struct Known {
     pub stars: usize,
     pub place: u32,

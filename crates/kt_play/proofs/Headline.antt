@@ -1,121 +1,82 @@
 -- From an answer to what was run, what was written and what was read.
-use Rattle.std.specs.Prelude.{◌≡◌, Option, Some, None, IfSome}
+use Rattle.std.specs.Prelude.{◌≡◌, Result, Ok, Err}
 use Rattle.std.specs.Io.KnownBytes.{IsAtEnd}
-use Rattle.std.proofs.Common.{inl, inr, subst}
-use Rattle.kt_edge.specs.Writes.{Writes, TakesOrFails}
+use Rattle.std.proofs.Common.{inl, inr, subst, sym, ◌∙◌}
+use Rattle.kt_edge.specs.Writes.{TakesOrFails}
 use Rattle.kt_world.specs.declared.mark.End.{End}
 use Rattle.kt_world.specs.Job.{Job}
 use Rattle.kt_play.specs.declared.refusal.Refusal.{Refusal}
+use Rattle.kt_play.specs.declared.report.RunFault.{RunFault}
+use Rattle.kt_play.specs.declared.report.RunFault.TheVariants as fault
 use Rattle.kt_play.specs.declared.status.Status.{Status}
-use Rattle.kt_play.specs.declared.status.Status.TheVariants.{Main, Trap, Budget, Stuck, Words, ReadFault, TooLong, Refused, WriteFault, NoMemory}
-use Rattle.kt_play.specs.Answer.{Call, IsAnswer, HasPlayed, HasFailed}
-use Rattle.kt_play.specs.Outcome.{IsRefused}
-use Rattle.kt_play.specs.Run.{IsAccepted, IsWhole, IsPart, IsOutcome}
-use Rattle.kt_play.specs.Status.{end_of, refusal_line}
-
--- an answer to a refusal is no end of a run
-no_end : (P : End → Type 0) (l : Type 0) (s : Status) (r : Refusal) (log : Writes) → IsRefused s r log l → IfSome (end_of s) P
-no_end P l (Main v) r log h = absurd h
-no_end P l (Trap t cause) r log h = absurd h
-no_end P l Budget r log h = absurd h
-no_end P l Stuck r log h = absurd h
-no_end P l Words r log h = tt
-no_end P l (ReadFault which) r log h = tt
-no_end P l (TooLong which) r log h = tt
-no_end P l (Refused file cause) r log h = tt
-no_end P l WriteFault r log h = tt
-no_end P l NoMemory r log h = tt
+use Rattle.kt_play.specs.declared.status.Status.TheVariants.{WriteFault, NoMemory}
+use Rattle.kt_play.specs.Answer.{IsAnswer}
+use Rattle.kt_play.specs.Call.{Call}
+use Rattle.kt_play.specs.Outcome.{IsWhole, IsOutcome}
+use Rattle.kt_play.specs.Promises.{HasPlayed, HasFailed}
+use Rattle.kt_play.specs.Run.{IsAccepted}
+use Rattle.kt_play.specs.Status.{status_of, run_answer, refusal_answer, refusal_line}
+use Rattle.kt_play.proofs.StatusLemmas.{same_end, same_refusal, same_fault, end_or_refusal, end_or_fault, refusal_or_fault}
 
 -- ---- the headline
 
-played : (call : Call) (job : Job) (how : End) → IsAccepted call.words call.given job → IsWhole job how call.out call.log →
-    HasPlayed call.words call.given call.out call.log how
-played call job how a w = record {
-  output = w.output;
-  journal = w.journal;
-  output_taken = w.output_taken;
-  journal_taken = w.journal_taken;
-  run = record { job = job; accepted = a; turns = w.turns; run = w.run };
-}
+played : (call : Call) (job : Job) → IsAccepted call.words call.given job → (run : Result End RunFault) → IsOutcome run job call.sinks → (how : End) →
+    run_answer run ≡ status_of how → HasPlayed call how
+played call job a (Ok h) o how e = record { job = job; accepted = a; whole = subst (λ (k : End). IsWhole job k call.sinks) (same_end h how e) o }
+played call job a (Err f) o how e = absurd (end_or_fault how f (sym e))
 
-ran-headline : (call : Call) (u l : Type 0) (s : Status) (job : Job) → IsAccepted call.words call.given job →
-    IsOutcome s job call.out call.log u l → IfSome (end_of s) (HasPlayed call.words call.given call.out call.log)
-ran-headline call u l (Main v) job a o = played call job _ a o
-ran-headline call u l (Trap t cause) job a o = played call job _ a o
-ran-headline call u l Budget job a o = played call job _ a o
-ran-headline call u l Stuck job a o = played call job _ a o
-ran-headline call u l Words job a o = tt
-ran-headline call u l (ReadFault which) job a o = tt
-ran-headline call u l (TooLong which) job a o = tt
-ran-headline call u l (Refused file cause) job a o = tt
-ran-headline call u l WriteFault job a o = tt
-ran-headline call u l NoMemory job a o = tt
-
-pub headline : (call : Call) (u l : Type 0) (s : Status) → IsAnswer call u l s → IfSome (end_of s) (HasPlayed call.words call.given call.out call.log)
-headline call u l s (inl r) = ran-headline call u l s r.job r.accepted r.outcome
-headline call u l s (inr t) = no_end _ l s t.why call.log t.refused
+pub headline : (call : Call) (s : Status) → IsAnswer call s → (how : End) → s ≡ status_of how → HasPlayed call how
+headline call s (inl r) how e = played call r.job r.accepted r.run r.outcome how (sym r.answered ∙ e)
+headline call s (inr (inl t)) how e = absurd (end_or_refusal how t.why (sym e ∙ t.answered))
+headline call s (inr (inr l)) how e = absurd (end_or_fault how fault.NoMemory (sym e ∙ l.answered))
 
 -- ---- what was written
 
-ran-line : (call : Call) (u l : Type 0) (s : Status) (job : Job) → IsOutcome s job call.out call.log u l →
-    IfSome (refusal_line s) (λ line. u × TakesOrFails call.log line)
-ran-line call u l (Main v) job o = tt
-ran-line call u l (Trap t cause) job o = tt
-ran-line call u l Budget job o = tt
-ran-line call u l Stuck job o = tt
-ran-line call u l Words job o = absurd o
-ran-line call u l (ReadFault which) job o = absurd o
-ran-line call u l (TooLong which) job o = absurd o
-ran-line call u l (Refused file cause) job o = absurd o
-ran-line call u l WriteFault job o = tt
-ran-line call u l NoMemory job o = tt
+-- the answer of a run is that to no refusal
+pub run_or_refusal : (run : Result End RunFault) (why : Refusal) → run_answer run ≡ refusal_answer why → ⊥
+run_or_refusal (Ok how) why e = end_or_refusal how why e
+run_or_refusal (Err f) why e = refusal_or_fault why f (sym e)
 
-away-line : (call : Call) (u l : Type 0) (s : Status) (r : Refusal) → u → IsRefused s r call.log l →
-    IfSome (refusal_line s) (λ line. u × TakesOrFails call.log line)
-away-line call u l (Main v) r untouched h = tt
-away-line call u l (Trap t cause) r untouched h = tt
-away-line call u l Budget r untouched h = tt
-away-line call u l Stuck r untouched h = tt
-away-line call u l Words r untouched h = (untouched, h.1)
-away-line call u l (ReadFault which) r untouched h = (untouched, h.1)
-away-line call u l (TooLong which) r untouched h = (untouched, h.1)
-away-line call u l (Refused file cause) r untouched h = (untouched, h.1)
-away-line call u l WriteFault r untouched h = tt
-away-line call u l NoMemory r untouched h = tt
+pub line : (call : Call) (s : Status) → IsAnswer call s → (why : Refusal) → s ≡ refusal_answer why →
+    call.sinks.out_untouched × TakesOrFails call.sinks.log (refusal_line why)
+line call s (inl r) why e = absurd (run_or_refusal r.run why (sym r.answered ∙ e))
+line call s (inr (inl t)) why e =
+    (t.unwritten, subst (λ (k : Refusal). TakesOrFails call.sinks.log (refusal_line k)) (same_refusal t.why why (sym t.answered ∙ e)) t.line)
+line call s (inr (inr l)) why e = absurd (refusal_or_fault why fault.NoMemory (sym e ∙ l.answered))
 
-pub line : (call : Call) (u l : Type 0) (s : Status) → IsAnswer call u l s → IfSome (refusal_line s) (λ line. u × TakesOrFails call.log line)
-line call u l s (inl r) = ran-line call u l s r.job r.outcome
-line call u l s (inr t) = away-line call u l s t.why t.unwritten t.refused
+nothing : (call : Call) (job : Job) (run : Result End RunFault) → IsOutcome run job call.sinks → run_answer run ≡ NoMemory →
+    call.sinks.out_untouched × call.sinks.log_untouched
+nothing call job (Ok how) o e = absurd (end_or_fault how fault.NoMemory e)
+nothing call job (Err fault.Write) o e = absurd (let f = same_fault fault.Write fault.NoMemory e in cc)
+nothing call job (Err fault.NoMemory) o e = o
 
-pub no_memory : (call : Call) (u l : Type 0) (s : Status) → IsAnswer call u l s → s ≡ NoMemory → u × l
-no_memory call u l s (inl r) e = subst (λ (k : Status). IsOutcome k r.job call.out call.log u l) e r.outcome
-no_memory call u l s (inr t) e = (t.unwritten, (subst (λ (k : Status). IsRefused k t.why call.log l) e t.refused).1)
+pub no_memory : (call : Call) (s : Status) → IsAnswer call s → s ≡ NoMemory → call.sinks.out_untouched × call.sinks.log_untouched
+no_memory call s (inl r) e = nothing call r.job r.run r.outcome (sym r.answered ∙ e)
+no_memory call s (inr (inl t)) e = absurd (refusal_or_fault t.why fault.NoMemory (sym t.answered ∙ e))
+no_memory call s (inr (inr l)) e = (l.unwritten, l.unlogged)
 
-failed : (call : Call) (l : Type 0) (job : Job) → IsAccepted call.words call.given job → IsPart job call.out call.log l →
-    HasFailed call.words call.given call.out call.log l
-failed call l job a p = record {
-  how = p.how;
-  output = p.output;
-  journal = p.journal;
-  fails = p.fails;
-  run = record { job = job; accepted = a; turns = p.turns; run = p.run };
-}
+failed : (call : Call) (job : Job) → IsAccepted call.words call.given job → (run : Result End RunFault) → IsOutcome run job call.sinks →
+    run_answer run ≡ WriteFault → HasFailed call
+failed call job a (Ok how) o e = absurd (end_or_fault how fault.Write e)
+failed call job a (Err fault.Write) o e = record { job = job; accepted = a; part = o }
+failed call job a (Err fault.NoMemory) o e = absurd (let f = same_fault fault.NoMemory fault.Write e in cc)
 
-pub write_fault : (call : Call) (u l : Type 0) (s : Status) → IsAnswer call u l s → s ≡ WriteFault → HasFailed call.words call.given call.out call.log l
-write_fault call u l s (inl r) e =
-    failed call l r.job r.accepted (subst (λ (k : Status). IsOutcome k r.job call.out call.log u l) e r.outcome)
-write_fault call u l s (inr t) e = absurd (subst (λ (k : Status). IsRefused k t.why call.log l) e t.refused)
+no_write_fault : (s : Status) → s ≡ NoMemory → s ≡ WriteFault → ⊥
+no_write_fault s n e = let f = same_fault fault.NoMemory fault.Write (sym n ∙ e) in cc
+
+pub write_fault : (call : Call) (s : Status) → IsAnswer call s → s ≡ WriteFault → HasFailed call
+write_fault call s (inl r) e = failed call r.job r.accepted r.run r.outcome (sym r.answered ∙ e)
+write_fault call s (inr (inl t)) e = absurd (refusal_or_fault t.why fault.Write (sym t.answered ∙ e))
+write_fault call s (inr (inr l)) e = absurd (no_write_fault s l.answered e)
 
 -- ---- what was read
 
-where_some : (o : Option End) (P : Type 0) → P → IfSome o (λ how. P)
-where_some None P p = tt
-where_some (Some how) P p = p
+pub input_read : (call : Call) (s : Status) → IsAnswer call s → (how : End) → s ≡ status_of how → IsAtEnd call.given.left_after
+input_read call s (inl r) how e = r.at_end
+input_read call s (inr (inl t)) how e = absurd (end_or_refusal how t.why (sym e ∙ t.answered))
+input_read call s (inr (inr l)) how e = absurd (end_or_fault how fault.NoMemory (sym e ∙ l.answered))
 
-pub input_read : (call : Call) (u l : Type 0) (s : Status) → IsAnswer call u l s → IfSome (end_of s) (λ how. IsAtEnd call.given.left_after)
-input_read call u l s (inl r) = where_some (end_of s) _ r.at_end
-input_read call u l s (inr t) = no_end _ l s t.why call.log t.refused
-
-pub input_read_too : (call : Call) (u l : Type 0) (s : Status) → IsAnswer call u l s → s ≡ WriteFault → IsAtEnd call.given.left_after
-input_read_too call u l s (inl r) e = r.at_end
-input_read_too call u l s (inr t) e = absurd (subst (λ (k : Status). IsRefused k t.why call.log l) e t.refused)
+pub input_read_too : (call : Call) (s : Status) → IsAnswer call s → s ≡ WriteFault → IsAtEnd call.given.left_after
+input_read_too call s (inl r) e = r.at_end
+input_read_too call s (inr (inl t)) e = absurd (refusal_or_fault t.why fault.Write (sym t.answered ∙ e))
+input_read_too call s (inr (inr l)) e = absurd (no_write_fault s l.answered e)

@@ -4,19 +4,16 @@ use Rattle.std.specs.List.{AllByRecursion}
 use Rattle.std.proofs.Common.{arith, sym, subst, ap, ◌∙◌, inl, inr}
 use Rattle.std.proofs.lemmas.List.Elements.{All-nil, All-cons}
 use Rattle.kt_tree.specs.Version.{Program, IsProgram}
-use Rattle.kt_play.specs.declared.refusal.Refusal.{Refusal}
-use Rattle.kt_play.specs.declared.refusal.Refusal.TheVariants.{Words, Read, Long, File, Memory}
+use Rattle.kt_play.specs.declared.refusal.NoJob.{NoJob}
+use Rattle.kt_play.specs.declared.refusal.NoJob.TheVariants.{File, NoMemory}
 use Rattle.kt_play.specs.Job.{updated}
-use Rattle.kt_play.specs.Prepared.{IsNoJob, IsNoVersion, IsReadyJob}
+use Rattle.kt_play.specs.Judged.{IsNoJob, IsNoVersion, IsReadyJob}
 use Rattle.kt_play.specs.Text.{IsVersionText}
 
 -- a first version that is one, and a second that is none
-pub no_second_version : (a r b : List ℕ) (v : Program) (refusal : Refusal) → IsVersionText a v → IsNoVersion refusal b 3 → IsNoJob refusal (a ∷ (r ∷ (b ∷ [])))
-no_second_version a r b v Words text h = h
-no_second_version a r b v (Read which) text h = h
-no_second_version a r b v (Long which) text h = h
+pub no_second_version : (a r b : List ℕ) (v : Program) (no_job : NoJob) → IsVersionText a v → IsNoVersion no_job b 3 → IsNoJob no_job (a ∷ (r ∷ (b ∷ [])))
 no_second_version a r b v (File n cause) text h = inr (inl (h.0, (v, text), h.1))
-no_second_version a r b v Memory text h = tt
+no_second_version a r b v NoMemory text h = tt
 
 pub one_pushed : {X : Type 0} (a b : List X) (x : X) → a ≡ [] → b ≡ a ++ x ∷ [] → b ≡ x ∷ []
 one_pushed a b x e f = f ∙ ap (λ l. l ++ x ∷ []) e

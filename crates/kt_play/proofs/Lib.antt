@@ -1,12 +1,14 @@
 mod Completeness
-mod FaultLemmas
 mod FileLemmas
 mod Headline
 mod JobLemmas
 mod JournalLemmas
+mod LongLemmas
 mod OneJob
 mod OutcomeLemmas
-mod Reading
+mod PromiseLemmas
 mod Refusals
+mod StatusLemmas
 mod TextLemmas
 mod ToldLemmas
+mod TypedLemmas

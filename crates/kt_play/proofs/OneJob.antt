@@ -2,15 +2,14 @@
 use Rattle.std.specs.Prelude.{◌≡◌, ℕ, ◌⊎◌, List, [], ◌∷◌, Bool, true, false}
 use Rattle.std.proofs.Common.{inl, inr, sym, subst, ap, ◌∙◌}
 use Rattle.kt_stage.specs.Stage.{runs_alone, runs_updated}
-use Rattle.kt_syntax.specs.File.{OneTree}
+use Rattle.kt_syntax.specs.Answer.{OneAnswer}
 use Rattle.kt_tree.specs.Version.{Program}
 use Rattle.kt_world.specs.Job.{Job}
 use Rattle.kt_play.specs.declared.status.Cause.{Cause}
 use Rattle.kt_play.specs.declared.status.Cause.TheVariants.{Later}
 use Rattle.kt_play.specs.Job.{alone, updated, IsBlankText, IsJobOf, IsLaterAlone, IsLeastLater, IsLaterOfThree, IsOutside, IsOutsideOfThree}
 use Rattle.kt_play.specs.Text.{IsVersionText, IsFaultOf}
-use Rattle.kt_play.proofs.FaultLemmas.{one_fault}
-use Rattle.kt_play.proofs.TextLemmas.{IsVersionText-unique, fault-none}
+use Rattle.kt_play.proofs.TextLemmas.{IsVersionText-unique, fault-none, one_fault}
 
 true_or_false : (b : Bool) → b ≡ true → b ≡ false → ⊥
 true_or_false b t f = cc
@@ -35,7 +34,7 @@ no_least v r w n first blank second (inl p) = true_or_false (runs_updated v) fir
 no_least v r w n first blank second (inr (inl p)) = p.2 blank
 no_least v r w n first blank second (inr (inr p)) = true_or_false (runs_updated w) second p.3
 
-module _ (one : OneTree) where
+module _ (one : OneAnswer) where
   -- what is said of the one version of a text
   of_version : (bytes : List ℕ) (v w : Program) → IsVersionText bytes v → IsVersionText bytes w → (P : Program → Type 0) → P v → P w
   of_version bytes v w s t P p = subst P (IsVersionText-unique one bytes v w s t) p

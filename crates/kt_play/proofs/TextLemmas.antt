@@ -1,17 +1,16 @@
--- A text is that of at most one version, and then has no fault.
-use Rattle.std.specs.Prelude.{◌≡◌, ℕ, ◌<◌, ◌≤◌, List, [], ◌∷◌, ◌++◌, Result, Ok, Err, refl}
-use Rattle.std.proofs.Common.{sym, subst, ap, ◌∙◌, arith, append_assoc, append-nil}
+-- A text is that of at most one version, and then has no fault; otherwise it has at most one.
+use Rattle.std.specs.Prelude.{◌≡◌, ℕ, ◌⊎◌, List, Result, Ok, Err, refl}
+use Rattle.std.proofs.Common.{inl, inr, sym, subst, ap, ◌∙◌}
 use Rattle.kt_lex.specs.declared.token.Token.{Token}
+use Rattle.kt_lex.specs.declared.token.LexFault.{LexFault}
+use Rattle.kt_lex.specs.declared.token.LexFault.TheVariants as lex
 use Rattle.kt_lex.specs.Tokens.{tokens_of}
-use Rattle.kt_grammar.specs.declared.symbol.Symbol.{Symbol}
-use Rattle.kt_grammar.specs.Symbols.{symbols_of_tokens}
-use Rattle.kt_grammar.specs.Marks.{Mark, symbols_of, IsShallow}
-use Rattle.kt_syntax.specs.File.{OneTree, IsTree}
-use Rattle.kt_syntax.specs.Spelling.{externals}
-use Rattle.kt_syntax.specs.FaultPlaces.{BeginsFile, IsRefused}
-use Rattle.kt_syntax.specs.Places.{BreaksOff, IsTooDeepAt}
+use Rattle.kt_syntax.specs.declared.fault.SyntaxFault.{SyntaxFault}
+use Rattle.kt_syntax.specs.declared.fault.SyntaxFault.TheVariants as syntax
+use Rattle.kt_syntax.specs.Answer.{IsAnswer, OneAnswer}
 use Rattle.kt_syntax.specs.Tree.{Tree}
 use Rattle.kt_names.specs.declared.fault.CheckFault.{CheckFault}
+use Rattle.kt_names.specs.declared.fault.CheckFault.TheVariants as check
 use Rattle.kt_check.specs.Files.{version_of}
 use Rattle.kt_tree.specs.Version.{Program}
 use Rattle.kt_play.specs.declared.status.Cause.{Cause}
@@ -19,116 +18,133 @@ use Rattle.kt_play.specs.declared.status.Cause.TheVariants.{Byte, Unclosed, Lite
 use Rattle.kt_play.specs.Job.{HasVersion}
 use Rattle.kt_play.specs.Text.{HasTree, IsTypedAs, IsVersionText, IsFaultOf, HasTokensWith}
 
--- ---- one tree, one version
+-- ---- faults by their stage
 
-same_tree : OneTree → (bytes : List ℕ) (tokens : List Token) (x y : Tree) → IsTree bytes tokens x → IsTree bytes tokens y → x ≡ y
-same_tree one bytes tokens x y s t =
-    let e = one (symbols_of_tokens bytes tokens) x.externals y.externals (record { marks = s.spelled.marks; parts = s.spelled.parts; spelled = s.spelled.spelled })
-    (record { marks = t.spelled.marks; parts = t.spelled.parts; spelled = t.spelled.spelled }) in
-    let l = s.bytes_long ∙ sym t.bytes_long in
-    λ i. record { externals = e i; length = l i }
+-- the cause of a fault of tokens, of syntax, and of types; want of memory is none of a text
+abbrev of_lex : LexFault → Cause
+of_lex (lex.Byte at) = Byte at
+of_lex (lex.Unclosed at) = Unclosed at
+of_lex (lex.Literal at) = Literal at
+of_lex (lex.Directive at) = Directive at
+of_lex lex.NoMemory = Later 0
 
-pub same_tokens : (bytes : List ℕ) (a b : List Token) → tokens_of bytes ≡ Ok a → tokens_of bytes ≡ Ok b → a ≡ b
+abbrev of_syntax : SyntaxFault → Cause
+of_syntax (syntax.Syntax at) = Syntax at
+of_syntax (syntax.TooDeep at) = TooDeep at
+of_syntax syntax.NoMemory = Later 0
+
+abbrev of_check : CheckFault → Cause
+of_check (check.Unknown at) = Unknown at
+of_check (check.Twice at) = Twice at
+of_check (check.BadType at) = BadType at
+of_check (check.Incomplete at) = Incomplete at
+of_check (check.TooBig at) = TooBig at
+of_check (check.Entry at) = Entry at
+of_check (check.Note at) = Note at
+of_check (check.NoMain at) = NoMain at
+of_check check.NoMemory = Later 0
+
+-- the tokens of the text have this tree, or this fault
+abbrev IsParsedAs : List ℕ → Result Tree SyntaxFault → Type 0
+IsParsedAs bytes outcome = HasTokensWith bytes (λ tokens. IsAnswer bytes tokens outcome)
+
+-- where a text has its fault: in its tokens, in its syntax, or in its types
+abbrev InTokens : List ℕ → Cause → Type 0
+InTokens bytes c = (f : LexFault) × (tokens_of bytes ≡ Err f) × (c ≡ of_lex f)
+
+abbrev InSyntax : List ℕ → Cause → Type 0
+InSyntax bytes c = (f : SyntaxFault) × IsParsedAs bytes (Err f) × (c ≡ of_syntax f)
+
+abbrev InTypes : List ℕ → Cause → Type 0
+InTypes bytes c = (f : CheckFault) × IsTypedAs bytes (Err f) × (c ≡ of_check f)
+
+abbrev IsFaulty : List ℕ → Cause → Type 0
+IsFaulty bytes c = InTokens bytes c ⊎ (InSyntax bytes c ⊎ InTypes bytes c)
+
+in_tokens : (bytes : List ℕ) (f : LexFault) → tokens_of bytes ≡ Err f → IsFaulty bytes (of_lex f)
+in_tokens bytes f e = inl (f, e, refl)
+
+in_types : (bytes : List ℕ) (f : CheckFault) → IsTypedAs bytes (Err f) → IsFaulty bytes (of_check f)
+in_types bytes f t = inr (inr (f, t, refl))
+
+faulty : (bytes : List ℕ) (c : Cause) → IsFaultOf bytes c → IsFaulty bytes c
+faulty bytes (Byte at) f = in_tokens bytes _ f
+faulty bytes (Unclosed at) f = in_tokens bytes _ f
+faulty bytes (Literal at) f = in_tokens bytes _ f
+faulty bytes (Directive at) f = in_tokens bytes _ f
+faulty bytes (Syntax at) f = inr (inl (syntax.Syntax at, record { tokens = f.tokens; lexed = f.lexed; fault = f.fault }, refl))
+faulty bytes (TooDeep at) f = inr (inl (syntax.TooDeep at, record { tokens = f.tokens; lexed = f.lexed; fault = f.fault }, refl))
+faulty bytes (Unknown at) f = in_types bytes _ f
+faulty bytes (Twice at) f = in_types bytes _ f
+faulty bytes (BadType at) f = in_types bytes _ f
+faulty bytes (Incomplete at) f = in_types bytes _ f
+faulty bytes (TooBig at) f = in_types bytes _ f
+faulty bytes (Entry at) f = in_types bytes _ f
+faulty bytes (Note at) f = in_types bytes _ f
+faulty bytes (NoMain at) f = in_types bytes _ f
+faulty bytes (Later at) f = absurd f
+
+-- ---- one outcome of each stage
+
+same_tokens : (bytes : List ℕ) (a b : List Token) → tokens_of bytes ≡ Ok a → tokens_of bytes ≡ Ok b → a ≡ b
 same_tokens bytes a b s t = cc
 
-one-tree : OneTree → (bytes : List ℕ) (x y : Tree) → HasTree bytes x → HasTree bytes y → x ≡ y
-one-tree one bytes x y s t =
-    let e = same_tokens bytes s.tokens t.tokens s.lexed t.lexed in
-    same_tree one bytes t.tokens x y (subst (λ (l : List Token). IsTree bytes l x) e s.tree) t.tree
+no_lexing : (bytes : List ℕ) (f : LexFault) (tokens : List Token) → tokens_of bytes ≡ Err f → tokens_of bytes ≡ Ok tokens → ⊥
+no_lexing bytes f tokens e t = cc
 
-pub one-outcome : OneTree → (bytes : List ℕ) (a b : Result Program CheckFault) → IsTypedAs bytes a → IsTypedAs bytes b → a ≡ b
-one-outcome one bytes a b s t =
-    let e = one-tree one bytes s.tree t.tree s.parsed t.parsed in sym s.typed ∙ ap version_of e ∙ t.typed
+same_lexing : (bytes : List ℕ) (f g : LexFault) → tokens_of bytes ≡ Err f → tokens_of bytes ≡ Err g → f ≡ g
+same_lexing bytes f g s t = cc
 
-pub IsVersionText-unique : OneTree → (bytes : List ℕ) (v w : Program) → IsVersionText bytes v → IsVersionText bytes w → v ≡ w
-IsVersionText-unique one bytes v w s t = let e = one-outcome one bytes (Ok v) (Ok w) s t in cc
+-- a text with a tree is parsed as that tree
+parsed : (bytes : List ℕ) (x : Tree) → HasTree bytes x → IsParsedAs bytes (Ok x)
+parsed bytes x t = record { tokens = t.tokens; lexed = t.lexed; fault = t.tree }
 
--- ---- no fault
+module _ (one : OneAnswer) where
+  one_parse : (bytes : List ℕ) (x y : Result Tree SyntaxFault) → IsParsedAs bytes x → IsParsedAs bytes y → x ≡ y
+  one_parse bytes x y s t =
+      let e = same_tokens bytes s.tokens t.tokens s.lexed t.lexed in
+      one bytes t.tokens x y (subst (λ (l : List Token). IsAnswer bytes l x) e s.fault) t.fault
 
--- marks of symbols that are two lists
-pub record AreSplit (marks : List Mark) (a b : List Symbol) : Type 0 where
-  pub front : List Mark
-  pub back : List Mark
-  pub whole : marks ≡ front ++ back
-  pub first : symbols_of front ≡ a
-  pub second : symbols_of back ≡ b
+  same_syntax : (bytes : List ℕ) (f g : SyntaxFault) → IsParsedAs bytes (Err f) → IsParsedAs bytes (Err g) → f ≡ g
+  same_syntax bytes f g s t = let e = one_parse bytes (Err f) (Err g) s t in cc
 
-pub split : (marks : List Mark) (a b : List Symbol) → symbols_of marks ≡ a ++ b → AreSplit marks a b
-split marks [] b e = record { front = []; back = marks; whole = refl; first = refl; second = e }
-split [] (x ∷ a) b e = absurd cc
-split (m ∷ marks) (x ∷ a) b e =
-    let here : m.symbol ≡ x = cc in
-    let later : symbols_of marks ≡ a ++ b = cc in
-    let s = split marks a b later in
-    record { front = m ∷ s.front; back = s.back; whole = ap (λ l. m ∷ l) s.whole; first = (let f = s.first in cc); second = s.second }
+  no_parsing : (bytes : List ℕ) (f : SyntaxFault) (o : Result Program CheckFault) → IsParsedAs bytes (Err f) → IsTypedAs bytes o → ⊥
+  no_parsing bytes f o s t = let e = one_parse bytes (Err f) (Ok t.tree) s (parsed bytes t.tree t.parsed) in cc
 
--- a file has no place where its tokens break off
-whole-or-broken : (symbols : List Symbol) (x : Tree) (m : List Mark) (rest : List Symbol) (marks : List Mark) → symbols ≡ symbols_of m ++ rest →
-    symbols_of marks ≡ symbols → externals x.externals marks → IsRefused (symbols_of m) rest → ⊥
-whole-or-broken symbols x m [] marks parts is spelled refused =
-    refused x.externals (record { marks = marks; parts = is ∙ parts ∙ append-nil (symbols_of m); spelled = spelled })
-whole-or-broken symbols x m (t ∷ rest) marks parts is spelled refused =
-    let s = split marks (symbols_of m ++ t ∷ []) rest (is ∙ parts ∙ sym (append_assoc (symbols_of m) (t ∷ []) rest)) in
-    refused (record {
-      marks = s.front;
-      parts = s.first;
-      begins = record { file = x.externals; others = s.back; spelled = subst (externals x.externals) s.whole spelled };
-    })
+  same_tree : (bytes : List ℕ) (x y : Tree) → HasTree bytes x → HasTree bytes y → x ≡ y
+  same_tree bytes x y s t = let e = one_parse bytes (Ok x) (Ok y) (parsed bytes x s) (parsed bytes y t) in cc
 
-pub broken-none : (bytes : List ℕ) (tokens : List Token) (at : ℕ) (x : Tree) → BreaksOff bytes tokens at → IsTree bytes tokens x → ⊥
-broken-none bytes tokens at x b t =
-    let s = b.1 in
-    whole-or-broken (symbols_of_tokens bytes tokens) x s.marks s.rest t.spelled.marks s.parts t.spelled.parts t.spelled.spelled s.refused
+  one-outcome : (bytes : List ℕ) (a b : Result Program CheckFault) → IsTypedAs bytes a → IsTypedAs bytes b → a ≡ b
+  one-outcome bytes a b s t = let e = same_tree bytes s.tree t.tree s.parsed t.parsed in sym s.typed ∙ ap version_of e ∙ t.typed
 
--- a mark among shallow ones is shallow
-pub shallow-middle : (n : ℕ) (front : List Mark) (m : Mark) (back : List Mark) → IsShallow n (front ++ m ∷ back) → m.depth ≤ n
-shallow-middle n [] m back h = h.0
-shallow-middle n (f ∷ front) m back h = shallow-middle n front m back h.1
+  pub IsVersionText-unique : (bytes : List ℕ) (v w : Program) → IsVersionText bytes v → IsVersionText bytes w → v ≡ w
+  IsVersionText-unique bytes v w s t = let e = one-outcome bytes (Ok v) (Ok w) s t in cc
 
--- nor a token that is too deep
-deep-back : (n : ℕ) (x : Tree) (before : List Symbol) (deep : Symbol) (rest : List Symbol) (front back marks : List Mark) → marks ≡ front ++ back →
-    symbols_of front ≡ before → symbols_of back ≡ deep ∷ rest → externals x.externals marks → IsShallow n marks →
-    ((ms : List Mark) (m : Mark) → symbols_of ms ≡ before → m.symbol ≡ deep → BeginsFile (ms ++ m ∷ []) → IsShallow n ms × (n < m.depth)) → ⊥
-deep-back n x before deep rest front [] marks whole f b spelled shallow first = absurd cc
-deep-back n x before deep rest front (m ∷ back) marks whole f b spelled shallow first =
-    let is : m.symbol ≡ deep = cc in
-    let d = (first front m f is (record {
-      file = x.externals;
-      others = back;
-      spelled = subst (externals x.externals) (whole ∙ sym (append_assoc front (m ∷ []) back)) spelled;
-    })).1 in
-    let s = shallow-middle n front m back (subst (IsShallow n) whole shallow) in
-    omega (arith, d, s)
+  same_typing : (bytes : List ℕ) (f g : CheckFault) → IsTypedAs bytes (Err f) → IsTypedAs bytes (Err g) → f ≡ g
+  same_typing bytes f g s t = let e = one-outcome bytes (Err f) (Err g) s t in cc
 
-pub deep-none : (bytes : List ℕ) (tokens : List Token) (at : ℕ) (x : Tree) → IsTooDeepAt bytes tokens at → IsTree bytes tokens x → ⊥
-deep-none bytes tokens at x d t =
-    let s = d.1 in
-    let p = split t.spelled.marks s.before (s.deep ∷ s.rest) (t.spelled.parts ∙ s.parts) in
-    deep-back 200 x s.before s.deep s.rest p.front p.back t.spelled.marks p.whole p.first p.second t.spelled.spelled t.spelled.shallow s.first
+  -- ---- no fault of a version, and at most one
 
-pub no_tokens : (bytes : List ℕ) (x : Tree) → HasTree bytes x → (P : List Token → Type 0) → HasTokensWith bytes P →
-    ((tokens : List Token) → P tokens → IsTree bytes tokens x → ⊥) → ⊥
-no_tokens bytes x t P f none =
-    let e = same_tokens bytes t.tokens f.tokens t.lexed f.lexed in
-    none f.tokens f.fault (subst (λ (l : List Token). IsTree bytes l x) e t.tree)
+  version_or_faulty : (bytes : List ℕ) (c : Cause) → IsFaulty bytes c → HasVersion bytes → ⊥
+  version_or_faulty bytes c (inl x) v = no_lexing bytes x.0 v.1.parsed.tokens x.1 v.1.parsed.lexed
+  version_or_faulty bytes c (inr (inl x)) v = no_parsing bytes x.0 _ x.1 v.1
+  version_or_faulty bytes c (inr (inr x)) v = let e = one-outcome bytes (Ok v.0) (Err x.0) v.1 x.1 in cc
 
-other_outcome : OneTree → (bytes : List ℕ) (p : Program) (f : CheckFault) → IsTypedAs bytes (Ok p) → IsTypedAs bytes (Err f) → ⊥
-other_outcome one bytes p f s t = let e = one-outcome one bytes (Ok p) (Err f) s t in cc
+  -- the text of a version has no fault
+  pub fault-none : (bytes : List ℕ) (c : Cause) → IsFaultOf bytes c → HasVersion bytes → ⊥
+  fault-none bytes c f v = version_or_faulty bytes c (faulty bytes c f) v
 
--- the text of a version has no fault
-pub fault-none : OneTree → (bytes : List ℕ) (cause : Cause) → IsFaultOf bytes cause → HasVersion bytes → ⊥
-fault-none one bytes (Byte at) f p = let e = p.1.parsed.lexed in cc
-fault-none one bytes (Unclosed at) f p = let e = p.1.parsed.lexed in cc
-fault-none one bytes (Literal at) f p = let e = p.1.parsed.lexed in cc
-fault-none one bytes (Directive at) f p = let e = p.1.parsed.lexed in cc
-fault-none one bytes (Syntax at) f p = no_tokens bytes p.1.tree p.1.parsed _ f (λ tokens b t. broken-none bytes tokens at p.1.tree b t)
-fault-none one bytes (TooDeep at) f p = no_tokens bytes p.1.tree p.1.parsed _ f (λ tokens b t. deep-none bytes tokens at p.1.tree b t)
-fault-none one bytes (Unknown at) f p = other_outcome one bytes p.0 _ p.1 f
-fault-none one bytes (Twice at) f p = other_outcome one bytes p.0 _ p.1 f
-fault-none one bytes (BadType at) f p = other_outcome one bytes p.0 _ p.1 f
-fault-none one bytes (Incomplete at) f p = other_outcome one bytes p.0 _ p.1 f
-fault-none one bytes (TooBig at) f p = other_outcome one bytes p.0 _ p.1 f
-fault-none one bytes (Entry at) f p = other_outcome one bytes p.0 _ p.1 f
-fault-none one bytes (Note at) f p = other_outcome one bytes p.0 _ p.1 f
-fault-none one bytes (NoMain at) f p = other_outcome one bytes p.0 _ p.1 f
-fault-none one bytes (Later at) f p = f
+  one_of : (bytes : List ℕ) (c d : Cause) → IsFaulty bytes c → IsFaulty bytes d → c ≡ d
+  one_of bytes c d (inl x) (inl y) = x.2 ∙ ap of_lex (same_lexing bytes x.0 y.0 x.1 y.1) ∙ sym y.2
+  one_of bytes c d (inl x) (inr (inl y)) = absurd (no_lexing bytes x.0 y.1.tokens x.1 y.1.lexed)
+  one_of bytes c d (inl x) (inr (inr y)) = absurd (no_lexing bytes x.0 y.1.parsed.tokens x.1 y.1.parsed.lexed)
+  one_of bytes c d (inr (inl x)) (inl y) = absurd (no_lexing bytes y.0 x.1.tokens y.1 x.1.lexed)
+  one_of bytes c d (inr (inl x)) (inr (inl y)) = x.2 ∙ ap of_syntax (same_syntax bytes x.0 y.0 x.1 y.1) ∙ sym y.2
+  one_of bytes c d (inr (inl x)) (inr (inr y)) = absurd (no_parsing bytes x.0 _ x.1 y.1)
+  one_of bytes c d (inr (inr x)) (inl y) = absurd (no_lexing bytes y.0 x.1.parsed.tokens y.1 x.1.parsed.lexed)
+  one_of bytes c d (inr (inr x)) (inr (inl y)) = absurd (no_parsing bytes y.0 _ y.1 x.1)
+  one_of bytes c d (inr (inr x)) (inr (inr y)) = x.2 ∙ ap of_check (same_typing bytes x.0 y.0 x.1 y.1) ∙ sym y.2
+
+  -- a text has at most one fault
+  pub one_fault : (bytes : List ℕ) (c d : Cause) → IsFaultOf bytes c → IsFaultOf bytes d → c ≡ d
+  one_fault bytes c d f g = one_of bytes c d (faulty bytes c f) (faulty bytes d g)

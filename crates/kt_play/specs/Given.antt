@@ -5,6 +5,7 @@ use Rattle.kt_edge.specs.FileMap.{FileMap, Holds, Tells}
 -- before and after the call
 pub record Given : Type 0 where
   pub told : Option FileMap
+  pub told_after : Option FileMap
   pub faults_before : ℕ
   pub faults_after : ℕ
   pub left_before : Option (List ℕ)
@@ -16,6 +17,7 @@ pub record Given : Type 0 where
 abbrev pub given_of : {F S : Type 0} → (F → Option FileMap) → (F → ℕ) → (S → Option (List ℕ)) → (S → ℕ) → F → F → S → S → Given
 given_of told faults left input_faults files files_after input input_after = record {
   told = told files;
+  told_after = told files_after;
   faults_before = faults files;
   faults_after = faults files_after;
   left_before = left input;

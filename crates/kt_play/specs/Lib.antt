@@ -1,11 +1,15 @@
 pub mod Answer
+pub mod Call
 pub mod Given
 pub mod Job
 pub mod Journal
+pub mod Judged
 pub mod Names
 pub mod Order
 pub mod Outcome
-pub mod Prepared
+pub mod Promises
+pub mod Reading
+pub mod Refused
 pub mod Run
 pub mod Status
 pub mod Text

@@ -1,8 +1,12 @@
 -- What the answers of `play` are: the end of a run, or a refusal with its log line.
-use Rattle.std.specs.Prelude.{ℕ, List, ◌++◌, Option, Some, None, codes}
+use Rattle.std.specs.Prelude.{ℕ, List, ◌++◌, Result, Ok, Err, codes}
 use Rattle.std.specs.Fmt.{decimal}
 use Rattle.kt_world.specs.declared.mark.End.{End}
 use Rattle.kt_world.specs.declared.mark.End.TheVariants as end
+use Rattle.kt_play.specs.declared.refusal.Refusal.{Refusal}
+use Rattle.kt_play.specs.declared.refusal.Refusal.TheVariants as refusal
+use Rattle.kt_play.specs.declared.report.RunFault.{RunFault}
+use Rattle.kt_play.specs.declared.report.RunFault.TheVariants as fault
 use Rattle.kt_play.specs.declared.status.Which.{Which}
 use Rattle.kt_play.specs.declared.status.Which.TheVariants.{File, Input}
 use Rattle.kt_play.specs.declared.status.Cause.{Cause}
@@ -17,18 +21,22 @@ status_of (end.Trap t cause) = Trap t cause
 status_of end.Budget = Budget
 status_of end.Stuck = Stuck
 
--- the end of a run that was written whole
-abbrev pub end_of : Status → Option End
-end_of (Main v) = Some (end.Main v)
-end_of (Trap t cause) = Some (end.Trap t cause)
-end_of Budget = Some end.Budget
-end_of Stuck = Some end.Stuck
-end_of Words = None
-end_of (ReadFault which) = None
-end_of (TooLong which) = None
-end_of (Refused file cause) = None
-end_of WriteFault = None
-end_of NoMemory = None
+-- the answer where a run isn't written whole
+abbrev pub fault_answer : RunFault → Status
+fault_answer fault.Write = WriteFault
+fault_answer fault.NoMemory = NoMemory
+
+-- the answer of a run
+abbrev pub run_answer : Result End RunFault → Status
+run_answer (Ok how) = status_of how
+run_answer (Err fault) = fault_answer fault
+
+-- the answer to a refusal
+abbrev pub refusal_answer : Refusal → Status
+refusal_answer refusal.Words = Words
+refusal_answer (refusal.Read which) = ReadFault which
+refusal_answer (refusal.Long which) = TooLong which
+refusal_answer (refusal.File n cause) = Refused n cause
 
 -- the name of a cause in the log, and the place
 abbrev pub cause_name : Cause → List ℕ
@@ -71,17 +79,12 @@ which_name (File n) = decimal n
 which_name Input = codes "input"
 
 -- the line that a refusal writes into the log
-abbrev pub refusal_line : Status → Option (List ℕ)
-refusal_line (Main v) = None
-refusal_line (Trap t cause) = None
-refusal_line Budget = None
-refusal_line Stuck = None
-refusal_line Words = Some (codes "refuse words\n")
-refusal_line (ReadFault which) = Some (codes "refuse read " ++ (which_name which ++ codes "\n"))
-refusal_line (TooLong which) = Some (codes "refuse long " ++ (which_name which ++ codes "\n"))
-refusal_line (Refused n cause) = Some (codes "refuse " ++ (decimal n ++ (codes " " ++ (cause_name cause ++ (codes " " ++ (decimal (cause_place cause) ++ codes "\n"))))))
-refusal_line WriteFault = None
-refusal_line NoMemory = None
+abbrev pub refusal_line : Refusal → List ℕ
+refusal_line refusal.Words = codes "refuse words\n"
+refusal_line (refusal.Read which) = codes "refuse read " ++ (which_name which ++ codes "\n")
+refusal_line (refusal.Long which) = codes "refuse long " ++ (which_name which ++ codes "\n")
+refusal_line (refusal.File n cause) =
+    codes "refuse " ++ (decimal n ++ (codes " " ++ (cause_name cause ++ (codes " " ++ (decimal (cause_place cause) ++ codes "\n")))))
 
 -- the exit status of a program that answers so
 abbrev pub exit_of : Status → ℕ

@@ -5,12 +5,10 @@ ghost use Rattle.std.specs.Io.KnownBytes.{IsAtEnd};
 ghost use Rattle.kt_play.specs.Given.{HoldsInput};
 ghost use Rattle.kt_play.specs.Job.{IsShortInput};
 ghost use Rattle.kt_play.specs.Names.{names_in, texts_in};
-ghost use Rattle.kt_play.specs.Prepared.{AreReadWhole, IsInputCause, IsReadCause, IsReadWhole};
-ghost use Rattle.kt_play.specs.Run.{IsFilesCause};
+ghost use Rattle.kt_play.specs.Reading.{AreReadWhole, IsFilesCause, IsInputCause, IsReadCause, IsReadWhole};
 
 use crate::order::Names;
-use crate::refusal::Refusal;
-use crate::status::Which;
+use crate::refusal::UnreadFile;
 use kt_edge::{FileEnd, Files, ReadEnd, Source, read_all};
 use kt_types::Text;
 use std::alloc::Global;
@@ -35,9 +33,9 @@ pub fn read_files<F: Files>(
     alloc: Global,
     names: Names<'_>,
     files: &mut F,
-) -> Result<Texts, Refusal>
+) -> Result<Texts, UnreadFile>
     ensures read { IfOk result (λ texts. AreReadWhole (F.told files.old) (names_in names.entry) (texts_in texts)) }
-    ensures cause { IfErr result (λ refusal. IsFilesCause refusal (F.told files.old) (F.faults files.old) (F.faults files.new) (names_in names.entry)) }
+    ensures cause { IfErr result (λ unread. IsFilesCause unread (F.told files.old) (F.faults files.old) (F.faults files.new) (names_in names.entry)) }
     ensures same { F.told files.new ≡ F.told files.old }
 {
     match names {
@@ -46,15 +44,13 @@ pub fn read_files<F: Files>(
     }
 }
 
-fn read_one<F: Files>(alloc: Global, version: &str, files: &mut F) -> Result<Texts, Refusal>
+fn read_one<F: Files>(alloc: Global, version: &str, files: &mut F) -> Result<Texts, UnreadFile>
     ensures read { IfOk result (λ texts. AreReadWhole (F.told files.old) (version.now ∷ []) (texts_in texts)) }
-    ensures cause { IfErr result (λ refusal. IsFilesCause refusal (F.told files.old) (F.faults files.old) (F.faults files.new) (version.now ∷ [])) }
+    ensures cause { IfErr result (λ unread. IsFilesCause unread (F.told files.old) (F.faults files.old) (F.faults files.new) (version.now ∷ [])) }
     ensures same { F.told files.new ≡ F.told files.old }
 {
-    match read(alloc, 1, version, files) {
-        Ok(text) => Ok(Texts::One(text)),
-        Err(refusal) => Err(refusal),
-    }
+    let version = read(alloc, 1, version, files)?;
+    Ok(Texts::One(version))
 }
 
 fn read_three<F: Files>(
@@ -63,9 +59,9 @@ fn read_three<F: Files>(
     rules: &str,
     second: &str,
     files: &mut F,
-) -> Result<Texts, Refusal>
+) -> Result<Texts, UnreadFile>
     ensures read { IfOk result (λ texts. AreReadWhole (F.told files.old) (first.now ∷ (rules.now ∷ (second.now ∷ []))) (texts_in texts)) }
-    ensures cause { IfErr result (λ refusal. IsFilesCause refusal (F.told files.old) (F.faults files.old) (F.faults files.new) (first.now ∷ (rules.now ∷ (second.now ∷ [])))) }
+    ensures cause { IfErr result (λ unread. IsFilesCause unread (F.told files.old) (F.faults files.old) (F.faults files.new) (first.now ∷ (rules.now ∷ (second.now ∷ [])))) }
     ensures same { F.told files.new ≡ F.told files.old }
 {
     let first = read(alloc, 1, first, files)?;
@@ -74,43 +70,54 @@ fn read_three<F: Files>(
     Ok(Texts::Three(first, rules, second))
 }
 
-// The bytes of the file of this name, the n-th of the words, which is within the limit.
-fn read<F: Files>(alloc: Global, n: u8, name: &str, files: &mut F) -> Result<Vec<u8>, Refusal>
+// The bytes of the file of this name, that of the given number among the words, which is within the limit.
+fn read<F: Files>(
+    alloc: Global,
+    number: u8,
+    name: &str,
+    files: &mut F,
+) -> Result<Vec<u8>, UnreadFile>
     ensures whole { IfOk result (λ text. IsReadWhole (F.told files.old) name.now text.items) }
-    ensures cause { IfErr result (λ refusal. IsReadCause refusal (F.told files.old) name.now (F.faults files.old) (F.faults files.new) n) }
+    ensures number { IfErr result (λ unread. unread.number ≡ number) }
+    ensures cause { IfErr result (λ unread. IsReadCause unread.end (F.told files.old) name.now (F.faults files.old) (F.faults files.new)) }
     ensures same { F.told files.new ≡ F.told files.old }
     ensures later { F.faults files.old ≤ F.faults files.new }
 {
     match files.read(alloc, name, LIMIT) {
-        Ok(bytes) => measured(n, bytes),
-        Err(FileEnd::Missing | FileEnd::Failed) => Err(Refusal::Read(Which::File(n))),
-        Err(FileEnd::NoMemory) => Err(Refusal::Memory),
+        Ok(bytes) => measured(number, bytes),
+        Err(FileEnd::Missing | FileEnd::Failed) => Err(UnreadFile {
+            number,
+            end: ReadEnd::Failed,
+        }),
+        Err(FileEnd::NoMemory) => Err(UnreadFile {
+            number,
+            end: ReadEnd::NoMemory,
+        }),
     }
 }
 
 // The bytes, unless they pass the limit.
-fn measured(n: u8, bytes: Vec<u8>) -> Result<Vec<u8>, Refusal>
+fn measured(number: u8, bytes: Vec<u8>) -> Result<Vec<u8>, UnreadFile>
     ensures short { IfOk result (λ text. (text ≡ bytes) × (length bytes.items ≤ 262144)) }
-    ensures long { IfErr result (λ refusal. (refusal ≡ Refusal.Long (Which.File n)) × (262144 < length bytes.items)) }
+    ensures long { IfErr result (λ unread. (unread ≡ record { number = number; end = ReadEnd.TooLong }) × (262144 < length bytes.items)) }
 {
     if bytes.len() > LIMIT as usize {
-        Err(Refusal::Long(Which::File(n)))
+        Err(UnreadFile {
+            number,
+            end: ReadEnd::TooLong,
+        })
     } else {
         Ok(bytes)
     }
 }
 
 /// Reads the input whole, which is within its limit.
-pub fn read_input<S: Source>(alloc: Global, input: &mut S) -> Result<Text, Refusal>
+pub fn read_input<S: Source>(alloc: Global, input: &mut S) -> Result<Text, ReadEnd>
     ensures whole { IfOk result (λ text. HoldsInput (S.left input.old) text) }
     ensures short { IfOk result (λ text. IsShortInput text) }
     ensures at_end { OnOk result (IsAtEnd (S.left input.new)) }
-    ensures cause { IfErr result (λ refusal. IsInputCause refusal (S.left input.old) (S.faults input.old) (S.faults input.new)) }
+    ensures cause { IfErr result (λ end. IsInputCause end (S.left input.old) (S.faults input.old) (S.faults input.new)) }
 {
-    match read_all(alloc, input, INPUT_LIMIT) {
-        Ok(bytes) => Ok(Text::from_vec(bytes)),
-        Err(ReadEnd::Failed) => Err(Refusal::Read(Which::Input)),
-        Err(ReadEnd::TooLong) => Err(Refusal::Long(Which::Input)),
-        Err(ReadEnd::NoMemory) => Err(Refusal::Memory),
-    }
+    let bytes = read_all(alloc, input, INPUT_LIMIT)?;
+    Ok(Text::from_vec(bytes))
 }

@@ -7,10 +7,10 @@ ghost use Rattle.kt_stage.specs.Stage.{runs_alone, runs_updated};
 ghost use Rattle.kt_world.specs.Plain.{job_of};
 ghost use Rattle.kt_play.specs.Job.{AreShort, IsBlankText, IsJobOf, IsLeastLater, alone, updated};
 ghost use Rattle.kt_play.specs.Names.{texts_in};
-ghost use Rattle.kt_play.specs.Prepared.{IsNoJob, IsReadyJob};
+ghost use Rattle.kt_play.specs.Judged.{IsNoJob, IsReadyJob};
 
 use crate::gather::Texts;
-use crate::refusal::Refusal;
+use crate::refusal::NoJob;
 use crate::status::Cause;
 use crate::text::version;
 use kt_stage::{runs_alone, runs_updated};
@@ -23,11 +23,11 @@ use std::alloc::Global;
 const BUDGET: u32 = 1_000_000;
 
 /// The job of these texts and this input: one version that runs, or two that may be updated, with blank rules between them.
-pub fn job(alloc: Global, texts: &Texts, input: Text) -> Result<Job, Refusal>
+pub fn job(alloc: Global, texts: &Texts, input: Text) -> Result<Job, NoJob>
     requires { AreShort (texts_in texts.now) }
     ensures job { IfOk result (λ job. IsJobOf (texts_in texts.now) input (job_of job)) }
     ensures ready { IfOk result (λ job. IsReadyJob (job_of job)) }
-    ensures cause { IfErr result (λ refusal. IsNoJob refusal (texts_in texts.now)) }
+    ensures cause { IfErr result (λ no_job. IsNoJob no_job (texts_in texts.now)) }
 {
     match texts {
         Texts::One(text) => one_version(alloc, text.as_slice(), input),
@@ -41,25 +41,25 @@ pub fn job(alloc: Global, texts: &Texts, input: Text) -> Result<Job, Refusal>
     }
 }
 
-fn one_version(alloc: Global, text: &[u8], input: Text) -> Result<Job, Refusal>
+fn one_version(alloc: Global, text: &[u8], input: Text) -> Result<Job, NoJob>
     requires { length text.now ≤ 262144 }
     ensures job { IfOk result (λ job. IsJobOf (text.now ∷ []) input (job_of job)) }
     ensures ready { IfOk result (λ job. IsReadyJob (job_of job)) }
-    ensures cause { IfErr result (λ refusal. IsNoJob refusal (text.now ∷ [])) }
+    ensures cause { IfErr result (λ no_job. IsNoJob no_job (text.now ∷ [])) }
 {
     let version = version(alloc, 1, text)?;
     if runs_alone(&version) {
         job_alone(alloc, version, input)
     } else {
-        Err(Refusal::File(1, Cause::Later(0)))
+        Err(NoJob::File(1, Cause::Later(0)))
     }
 }
 
 // The job of one version.
-fn job_alone(alloc: Global, version: Version, input: Text) -> Result<Job, Refusal>
+fn job_alone(alloc: Global, version: Version, input: Text) -> Result<Job, NoJob>
     ensures job { IfOk result (λ job. job_of job ≡ alone version input) }
     ensures ready { IfOk result (λ job. IsReadyJob (job_of job)) }
-    ensures cause { IfErr result (λ refusal. refusal ≡ Refusal.Memory) }
+    ensures cause { IfErr result (λ no_job. no_job ≡ NoJob.NoMemory) }
 {
     version_law(&version);
     bytes_law(input.as_bytes());
@@ -84,17 +84,17 @@ fn two_versions(
     rules: &[u8],
     second: &[u8],
     input: Text,
-) -> Result<Job, Refusal>
+) -> Result<Job, NoJob>
     requires first { length first.now ≤ 262144 }
     requires second { length second.now ≤ 262144 }
     ensures job { IfOk result (λ job. IsJobOf (first.now ∷ (rules.now ∷ (second.now ∷ []))) input (job_of job)) }
     ensures ready { IfOk result (λ job. IsReadyJob (job_of job)) }
-    ensures cause { IfErr result (λ refusal. IsNoJob refusal (first.now ∷ (rules.now ∷ (second.now ∷ [])))) }
+    ensures cause { IfErr result (λ no_job. IsNoJob no_job (first.now ∷ (rules.now ∷ (second.now ∷ [])))) }
 {
     let old = version(alloc, 1, first)?;
     let new = version(alloc, 3, second)?;
     match later(&old, rules, &new) {
-        Some(file) => Err(Refusal::File(file, Cause::Later(0))),
+        Some(file) => Err(NoJob::File(file, Cause::Later(0))),
         None => job_updated(alloc, old, new, input),
     }
 }
@@ -115,10 +115,10 @@ fn later(old: &Version, rules: &[u8], new: &Version) -> Option<u8>
 }
 
 // The job of a version and the next one, which is asked for at once.
-fn job_updated(alloc: Global, old: Version, new: Version, input: Text) -> Result<Job, Refusal>
+fn job_updated(alloc: Global, old: Version, new: Version, input: Text) -> Result<Job, NoJob>
     ensures job { IfOk result (λ job. job_of job ≡ updated old new input) }
     ensures ready { IfOk result (λ job. IsReadyJob (job_of job)) }
-    ensures cause { IfErr result (λ refusal. refusal ≡ Refusal.Memory) }
+    ensures cause { IfErr result (λ no_job. no_job ≡ NoJob.NoMemory) }
 {
     version_law(&old);
     version_law(&new);

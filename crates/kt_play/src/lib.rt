@@ -14,6 +14,4 @@ mod refuse;
 mod report;
 mod run;
 pub mod status;
-#[cfg(test)]
-mod tests;
 mod text;

@@ -1,74 +1,84 @@
 //! The log lines of refusals.
 
-ghost use Rattle.std.specs.Prelude.{◌≡◌};
+ghost use Rattle.std.specs.Prelude.{◌≡◌, IsOk, OnErr, OnOk};
 ghost use Rattle.kt_edge.specs.Writes.{writes_of, TakesOrFails};
-ghost use Rattle.kt_play.specs.Outcome.{IsRefused};
+ghost use Rattle.kt_play.specs.Status.{refusal_line};
 
 use crate::refusal::Refusal;
-use crate::status::{Cause, Status, Which};
+use crate::status::{Cause, Which};
 use kt_edge::{Sink, write_whole};
-use std::alloc::Global;
+use std::alloc::{AllocError, Global};
 
-/// Writes a refusal's line into the log, and gives the answer. A failure of that line changes no answer.
-pub fn refuse<J: Sink>(alloc: Global, refusal: Refusal, log: &mut J) -> Status
-    ensures { IsRefused result refusal (writes_of J.taken J.faults log.old log.new) (log.new ≡ log.old) }
+/// Writes a refusal's line into the log. A failure of the log is told to nobody; that of words needs no memory.
+pub fn tell<J: Sink>(alloc: Global, why: Refusal, log: &mut J) -> Result<(), AllocError>
+    ensures told { OnOk result (TakesOrFails (writes_of J.taken J.faults log.old log.new) (refusal_line why)) }
+    ensures untold { OnErr result (log.new ≡ log.old) }
+    ensures words { why ≡ Refusal.Words → IsOk result }
 {
-    match refusal {
+    match why {
         Refusal::Words => {
             write_line(b"refuse words\n", log);
-            Status::Words
+            Ok(())
         }
-        Refusal::Read(Which::File(file)) => refuse_read(alloc, file, log),
-        Refusal::Read(Which::Input) => {
+        Refusal::Read(which) => tell_unread(alloc, which, log),
+        Refusal::Long(which) => tell_long(alloc, which, log),
+        Refusal::File(file, cause) => tell_cause(alloc, file, cause, log),
+    }
+}
+
+fn tell_unread<J: Sink>(alloc: Global, which: Which, log: &mut J) -> Result<(), AllocError>
+    ensures told { OnOk result (TakesOrFails (writes_of J.taken J.faults log.old log.new) (refusal_line (Refusal.Read which))) }
+    ensures untold { OnErr result (log.new ≡ log.old) }
+{
+    match which {
+        Which::File(file) => tell_unread_file(alloc, file, log),
+        Which::Input => {
             write_line(b"refuse read input\n", log);
-            Status::ReadFault(Which::Input)
+            Ok(())
         }
-        Refusal::Long(Which::File(file)) => refuse_long(alloc, file, log),
-        Refusal::Long(Which::Input) => {
+    }
+}
+
+fn tell_unread_file<J: Sink>(alloc: Global, file: u8, log: &mut J) -> Result<(), AllocError>
+    ensures told { OnOk result (TakesOrFails (writes_of J.taken J.faults log.old log.new) (refusal_line (Refusal.Read (Which.File file)))) }
+    ensures untold { OnErr result (log.new ≡ log.old) }
+{
+    let line = format!(in alloc; "refuse read {file}\n")?;
+    write_line(line.as_bytes(), log);
+    Ok(())
+}
+
+fn tell_long<J: Sink>(alloc: Global, which: Which, log: &mut J) -> Result<(), AllocError>
+    ensures told { OnOk result (TakesOrFails (writes_of J.taken J.faults log.old log.new) (refusal_line (Refusal.Long which))) }
+    ensures untold { OnErr result (log.new ≡ log.old) }
+{
+    match which {
+        Which::File(file) => tell_long_file(alloc, file, log),
+        Which::Input => {
             write_line(b"refuse long input\n", log);
-            Status::TooLong(Which::Input)
+            Ok(())
         }
-        Refusal::File(file, cause) => refuse_file(alloc, file, cause, log),
-        Refusal::Memory => Status::NoMemory,
     }
 }
 
-fn refuse_read<J: Sink>(alloc: Global, file: u8, log: &mut J) -> Status
-    ensures { IsRefused result (Refusal.Read (Which.File file)) (writes_of J.taken J.faults log.old log.new) (log.new ≡ log.old) }
+fn tell_long_file<J: Sink>(alloc: Global, file: u8, log: &mut J) -> Result<(), AllocError>
+    ensures told { OnOk result (TakesOrFails (writes_of J.taken J.faults log.old log.new) (refusal_line (Refusal.Long (Which.File file)))) }
+    ensures untold { OnErr result (log.new ≡ log.old) }
 {
-    match format!(in alloc; "refuse read {file}\n") {
-        Err(_) => Status::NoMemory,
-        Ok(line) => {
-            write_line(line.as_bytes(), log);
-            Status::ReadFault(Which::File(file))
-        }
-    }
+    let line = format!(in alloc; "refuse long {file}\n")?;
+    write_line(line.as_bytes(), log);
+    Ok(())
 }
 
-fn refuse_long<J: Sink>(alloc: Global, file: u8, log: &mut J) -> Status
-    ensures { IsRefused result (Refusal.Long (Which.File file)) (writes_of J.taken J.faults log.old log.new) (log.new ≡ log.old) }
-{
-    match format!(in alloc; "refuse long {file}\n") {
-        Err(_) => Status::NoMemory,
-        Ok(line) => {
-            write_line(line.as_bytes(), log);
-            Status::TooLong(Which::File(file))
-        }
-    }
-}
-
-fn refuse_file<J: Sink>(alloc: Global, file: u8, cause: Cause, log: &mut J) -> Status
-    ensures { IsRefused result (Refusal.File file cause) (writes_of J.taken J.faults log.old log.new) (log.new ≡ log.old) }
+fn tell_cause<J: Sink>(alloc: Global, file: u8, cause: Cause, log: &mut J) -> Result<(), AllocError>
+    ensures told { OnOk result (TakesOrFails (writes_of J.taken J.faults log.old log.new) (refusal_line (Refusal.File file cause))) }
+    ensures untold { OnErr result (log.new ≡ log.old) }
 {
     let name = cause.name();
     let at = cause.place();
-    match format!(in alloc; "refuse {file} {name} {at}\n") {
-        Err(_) => Status::NoMemory,
-        Ok(line) => {
-            write_line(line.as_bytes(), log);
-            Status::Refused { file, cause }
-        }
-    }
+    let line = format!(in alloc; "refuse {file} {name} {at}\n")?;
+    write_line(line.as_bytes(), log);
+    Ok(())
 }
 
 fn write_line<J: Sink>(line: &[u8], log: &mut J)

@@ -3,7 +3,7 @@
 ghost use Rattle.std.specs.Prelude.{IfOk};
 ghost use Rattle.kt_machine.specs.Report.{HasRun};
 ghost use Rattle.kt_world.specs.Plain.{job_of};
-ghost use Rattle.kt_play.specs.Prepared.{IsReadyJob};
+ghost use Rattle.kt_play.specs.Judged.{IsReadyJob};
 
 use crate::codes::compile_all;
 use kt_machine::{Report, take_turns};

@@ -3,6 +3,8 @@
 ghost use Rattle.std.specs.Prelude.{◌≡◌};
 ghost use Rattle.kt_play.specs.Status.{cause_name, cause_place, exit_of};
 
+use crate::refusal::Refusal;
+use crate::report::RunFault;
 use kt_mem::Trap;
 use kt_world::mark::End;
 
@@ -135,6 +137,36 @@ impl From<End> for Status {
             End::Trap(thread, cause) => Status::Trap { thread, cause },
             End::Budget => Status::Budget,
             End::Stuck => Status::Stuck,
+        }
+    }
+}
+
+impl From<Refusal> for Status {
+    ghost use Rattle.std.specs.Prelude.{◌≡◌};
+    ghost use Rattle.kt_play.specs.Status.{refusal_answer};
+
+    ghost from_gives = { λ why status. status ≡ refusal_answer why };
+
+    fn from(why: Refusal) -> Status {
+        match why {
+            Refusal::Words => Status::Words,
+            Refusal::Read(which) => Status::ReadFault(which),
+            Refusal::Long(which) => Status::TooLong(which),
+            Refusal::File(file, cause) => Status::Refused { file, cause },
+        }
+    }
+}
+
+impl From<RunFault> for Status {
+    ghost use Rattle.std.specs.Prelude.{◌≡◌};
+    ghost use Rattle.kt_play.specs.Status.{fault_answer};
+
+    ghost from_gives = { λ fault status. status ≡ fault_answer fault };
+
+    fn from(fault: RunFault) -> Status {
+        match fault {
+            RunFault::Write => Status::WriteFault,
+            RunFault::NoMemory => Status::NoMemory,
         }
     }
 }

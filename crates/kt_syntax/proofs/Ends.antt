@@ -1,7 +1,7 @@
 -- Nothing is read where no symbol is left.
 use Rattle.std.proofs.Common.{◌≡◌, ℕ, true, [], ◌∷◌, List, refl, Option, rules}
 use Rattle.kt_grammar.specs.declared.symbol.Symbol.{Symbol}
-use Rattle.kt_grammar.specs.Cursor.{unexpected, name_at, begins_sign}
+use Rattle.kt_grammar.specs.Cursor.{unexpected, name_at}
 use Rattle.kt_grammar.specs.Reading.{begins_base, bare_base_at, behind_const}
 use Rattle.kt_syntax.specs.Reading.{Blocks, stars_at, pointer_behind, declarator_at, parameter_at, global_at, local_at, fields_at, entry_at, statement_at, external_at, typed_at, count_leading, is_end}
 

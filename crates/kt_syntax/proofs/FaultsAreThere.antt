@@ -1,5 +1,5 @@
 -- A token list that is no file within the limit breaks off exactly where reading tells.
-use Rattle.std.proofs.Common.{◌≡◌, ℕ, zero, suc, ◌+◌, ◌<◌, ◌≤◌, nat_lt, Bool, true, false, inl, inr, ◌⊎◌, List, [], ◌∷◌, ◌++◌, length, Result, Ok, Err, refl, sym, ap, subst, ◌∙◌, arith, append_assoc, length-append}
+use Rattle.std.proofs.Common.{◌≡◌, ℕ, suc, ◌+◌, ◌<◌, ◌≤◌, nat_lt, inl, inr, ◌⊎◌, List, [], ◌∷◌, ◌++◌, length, Result, Ok, Err, sym, ap, subst, ◌∙◌, arith, append_assoc, length-append}
 use Rattle.std.proofs.lemmas.List.{append-nil}
 use Rattle.std.proofs.lemmas.Bool.Decides.{nat_tests}
 use Rattle.kt_grammar.specs.declared.fault.Fault.{Fault}
@@ -10,7 +10,7 @@ use Rattle.kt_grammar.specs.Cut.{cut}
 use Rattle.kt_grammar.specs.CutLaws.{symbols_of-append, symbols_of-length, cut-kept, cut-deep}
 use Rattle.kt_grammar.specs.StandsLaws.{either}
 use Rattle.kt_grammar.specs.FaultLaws.{no_fault, same_fault}
-use Rattle.kt_grammar.specs.Laws.{FaultStands, IsFaultAt}
+use Rattle.kt_grammar.specs.Laws.{IsFaultAt}
 use Rattle.kt_syntax.specs.Tree.{External}
 use Rattle.kt_syntax.specs.Spelling.{externals}
 use Rattle.kt_syntax.specs.File.{IsFile}
@@ -18,7 +18,7 @@ use Rattle.kt_syntax.specs.Laws.{FileIsReadBack}
 use Rattle.kt_syntax.specs.StandLaws.{some_file, FileFaultStands}
 use Rattle.kt_syntax.specs.Local.{FileIsLocal}
 use Rattle.kt_syntax.specs.Reading.{file_at}
-use Rattle.kt_syntax.specs.FaultPlaces.{BeginsFile, IsBeginning, IsRefused, IsSyntaxAt, IsDeepAt, SyntaxIsThere, DepthIsThere}
+use Rattle.kt_syntax.specs.FaultPlaces.{BeginsFile, IsBeginning, IsRefused, IsDeepAt, SyntaxIsThere, DepthIsThere}
 
 -- ---- what cut answers
 

@@ -22,3 +22,6 @@ pub mod Deep
 pub mod Ends
 pub mod Loops
 pub mod Nodes
+pub mod OneAnswer
+pub mod DepthsAgree
+pub mod Told

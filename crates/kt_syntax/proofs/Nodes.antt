@@ -1,5 +1,5 @@
 -- What a statement is as plain data, made of its parts.
-use Rattle.std.proofs.Common.{◌≡◌, ℕ, List, [], ◌∷◌, map, refl, ap, ◌∙◌, Option}
+use Rattle.std.proofs.Common.{◌≡◌, List, map, refl, ap, ◌∙◌, Option}
 use Rattle.std.specs.Option.{option_map}
 use denote.Hole.Carrier.{hidden}
 use mathlib.Core.Former.{Count}

@@ -8,3 +8,4 @@ pub mod ListStands
 pub mod Local
 pub mod FaultPlaces
 pub mod Places
+pub mod Answer

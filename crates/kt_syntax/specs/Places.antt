@@ -1,5 +1,5 @@
 -- At which byte a fault of reading is told.
-use Rattle.std.specs.Prelude.{◌≡◌, ℕ, ◌-◌, List, length, Option, Some, None, slice_get, Result, Err}
+use Rattle.std.specs.Prelude.{◌≡◌, ℕ, ◌-◌, List, length, Some, None, slice_get, Err}
 use Rattle.kt_lex.specs.declared.token.Token.{Token}
 use Rattle.kt_grammar.specs.declared.fault.Fault.TheVariants.{Syntax, TooDeep}
 use Rattle.kt_grammar.specs.Cursor.{Outcome}

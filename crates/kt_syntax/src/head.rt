@@ -11,7 +11,7 @@ use super::local::locals;
 use super::tree::{ForStart, Stmt};
 use kt_grammar::{
     Dialect, Expr, Fault, Keyword, Sign, Symbol, begins_base, begins_expr, begins_sign, behind,
-    behind_first, expr,
+    behind_first, beside, expr,
 };
 use std::alloc::Global;
 
@@ -92,7 +92,7 @@ pub(crate) fn condition(
 {
     let inner = behind(Sign::OpenParenthesis, symbols)?;
     let (test, rest) = deep_expr(alloc, depth, inner)?;
-    let rest = behind(Sign::CloseParenthesis, rest)?;
+    let (test, rest) = beside(test, behind(Sign::CloseParenthesis, rest))?;
     Ok((test, rest))
 }
 
@@ -111,7 +111,7 @@ pub(crate) fn ended(
         return Ok((None, behind_first(symbols)));
     }
     let (value, rest) = expr(alloc, Dialect::C, depth, symbols)?;
-    let rest = behind(sign, rest)?;
+    let (value, rest) = beside(value, behind(sign, rest))?;
     Ok((Some(value), rest))
 }
 
@@ -154,11 +154,11 @@ pub(crate) fn start(
     }
     if begins_base(symbols) {
         let (locals, rest) = locals(alloc, depth, symbols)?;
-        let rest = behind(Sign::Semicolon, rest)?;
+        let (locals, rest) = beside(locals, behind(Sign::Semicolon, rest))?;
         return Ok((ForStart::Locals(locals), rest));
     }
     let (value, rest) = expr(alloc, Dialect::C, depth, symbols)?;
-    let rest = behind(Sign::Semicolon, rest)?;
+    let (value, rest) = beside(value, behind(Sign::Semicolon, rest))?;
     Ok((ForStart::Expr(value), rest))
 }
 
@@ -173,6 +173,6 @@ pub(crate) fn evaluated(
     ensures shorter { IfOk result (λ x. length x.1.now < length symbols.now) }
 {
     let (value, rest) = expr(alloc, Dialect::C, depth, symbols)?;
-    let rest = behind(Sign::Semicolon, rest)?;
+    let (value, rest) = beside(value, behind(Sign::Semicolon, rest))?;
     Ok((Stmt::Expr(value), rest))
 }

@@ -1,6 +1,7 @@
 //! The grammar of C files and its parser.
 #![tactic(auto)]
 
+mod answer;
 mod constant;
 mod declarator;
 mod external;
@@ -18,6 +19,7 @@ mod stands;
 mod statement;
 mod tree;
 
+pub use answer::{file_answer_law, file_depth_law};
 pub use fault::SyntaxFault;
 pub use laws::file_laws;
 pub use parser::parse;

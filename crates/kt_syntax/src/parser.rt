@@ -1,6 +1,6 @@
 //! A whole file.
 
-ghost use Rattle.std.specs.Prelude.{◌≡◌, ℕ, ◌<◌, ◌^◌, [], List, length, Ok, Err, IfOk, IfErr, MatchResult};
+ghost use Rattle.std.specs.Prelude.{◌≡◌, ◌⊎◌, ℕ, ◌<◌, ◌^◌, [], List, length, Ok, Err, IfOk, IfErr, MatchResult};
 ghost use Rattle.kt_lex.specs.Tokens.{tokens_of};
 ghost use Rattle.kt_grammar.specs.Symbols.{symbols_of_tokens};
 ghost use Rattle.kt_grammar.specs.Cursor.{Fails, Outcome};
@@ -8,8 +8,10 @@ ghost use Rattle.kt_syntax.specs.Tree.{External, Tree, tree_of};
 ghost use Rattle.kt_syntax.specs.Reading.{file_at};
 ghost use Rattle.kt_syntax.specs.File.{IsTree};
 ghost use Rattle.kt_syntax.specs.Places.{place_of, Tells, BreaksOff, IsTooDeepAt};
+ghost use Rattle.kt_syntax.specs.Answer.{IsAnswer};
 ghost use Rattle.kt_syntax.specs.declared.fault.SyntaxFault.{SyntaxFault};
 
+use super::answer::file_answer_law;
 use super::external::externals;
 use super::fault::SyntaxFault;
 use super::laws::file_laws;
@@ -93,7 +95,12 @@ pub fn parse(alloc: Global, tokens: &[Token], bytes: &[u8]) -> Result<File, Synt
     // A fault stands at its place.
     ensures syntax { (at : ℕ) → result ≡ Err (SyntaxFault.Syntax at) → BreaksOff bytes.now tokens.now at }
     ensures deep { (at : ℕ) → result ≡ Err (SyntaxFault.TooDeep at) → IsTooDeepAt bytes.now tokens.now at }
+
+    // Where the tokens have a fault it is answered, unless memory runs out.
+    ensures fails { (fault : SyntaxFault) → IsAnswer bytes.now tokens.now (Err fault)
+        → MatchResult result (λ y. ⊥) (λ e. (e ≡ fault) ⊎ (e ≡ SyntaxFault.NoMemory)) }
 {
+    file_answer_law();
     file_laws();
     file_stands_law();
     file_places_law();

@@ -14,7 +14,7 @@ use super::local::locals;
 use super::node;
 use super::tree::Stmt;
 use kt_grammar::{
-    Expr, Fault, Keyword, Sign, Symbol, begins_base, begins_sign, behind, behind_first,
+    Expr, Fault, Keyword, Sign, Symbol, begins_base, begins_sign, behind, behind_first, beside,
 };
 use sqlite_items::{Boxed, Items};
 use std::alloc::Global;
@@ -54,7 +54,7 @@ fn otherwise<'s>(
     match behind_else(symbols) {
         None => Ok((node::conditional(test, body), symbols)),
         Some(rest) => {
-            let (other, rest) = part(alloc, depth, rest)?;
+            let ((test, body), (other, rest)) = beside((test, body), part(alloc, depth, rest))?;
             Ok((node::alternative(test, body, other), rest))
         }
     }
@@ -72,7 +72,7 @@ fn conditional<'s>(
     ensures shorter { IfOk result (λ x. length x.1.now < length symbols.now) }
 {
     let (test, rest) = condition(alloc, depth, symbols)?;
-    let (body, rest) = part(alloc, depth, rest)?;
+    let (test, (body, rest)) = beside(test, part(alloc, depth, rest))?;
     otherwise(alloc, depth, test, body, rest)
 }
 
@@ -88,7 +88,7 @@ fn looped<'s>(
     ensures shorter { IfOk result (λ x. length x.1.now < length symbols.now) }
 {
     let (test, rest) = condition(alloc, depth, symbols)?;
-    let (body, rest) = part(alloc, depth, rest)?;
+    let (test, (body, rest)) = beside(test, part(alloc, depth, rest))?;
     Ok((node::looped(test, body), rest))
 }
 
@@ -104,9 +104,9 @@ fn repeated<'s>(
     ensures shorter { IfOk result (λ x. length x.1.now < length symbols.now) }
 {
     let (body, rest) = part(alloc, depth, symbols)?;
-    let rest = behind_while(rest)?;
-    let (test, rest) = condition(alloc, depth, rest)?;
-    let rest = behind(Sign::Semicolon, rest)?;
+    let (body, rest) = beside(body, behind_while(rest))?;
+    let (body, (test, rest)) = beside(body, condition(alloc, depth, rest))?;
+    let ((body, test), rest) = beside((body, test), behind(Sign::Semicolon, rest))?;
     Ok((node::repeated(body, test), rest))
 }
 
@@ -123,9 +123,13 @@ fn counted<'s>(
 {
     let inner = behind(Sign::OpenParenthesis, symbols)?;
     let (start, rest) = start(alloc, depth, inner)?;
-    let (test, rest) = ended(alloc, depth, Sign::Semicolon, rest)?;
-    let (step, rest) = ended(alloc, depth, Sign::CloseParenthesis, rest)?;
-    let (body, rest) = part(alloc, depth, rest)?;
+    let (start, (test, rest)) = beside(start, ended(alloc, depth, Sign::Semicolon, rest))?;
+    let (front, (step, rest)) = beside(
+        (start, test),
+        ended(alloc, depth, Sign::CloseParenthesis, rest),
+    )?;
+    let ((front, step), (body, rest)) = beside((front, step), part(alloc, depth, rest))?;
+    let (start, test) = front;
     Ok((node::counted(start, test, step, body), rest))
 }
 
@@ -201,7 +205,7 @@ fn entry<'s>(
         return statement(alloc, depth, symbols);
     }
     let (locals, rest) = locals(alloc, depth, symbols)?;
-    let rest = behind(Sign::Semicolon, rest)?;
+    let (locals, rest) = beside(locals, behind(Sign::Semicolon, rest))?;
     Ok((Stmt::Locals(locals), rest))
 }
 

@@ -5,7 +5,7 @@ use kt_lex::Number;
 use sqlite_items::{Boxed, Items};
 
 /// One or more stars of a declarator, and the place of the first.
-#[derive(Debug, Drop)]
+#[derive(Drop)]
 pub struct Stars {
     pub at: u32,
     /// At least 1.
@@ -13,7 +13,7 @@ pub struct Stars {
 }
 
 /// What stands between the parentheses of `E_PTRARRAY`.
-#[derive(Debug, Drop)]
+#[derive(Drop)]
 pub enum Extent {
     Name(Name),
     /// A number and its place.
@@ -21,14 +21,14 @@ pub enum Extent {
 }
 
 /// The stars of a declarator, with `E_PTRARRAY` or without.
-#[derive(Debug, Drop)]
+#[derive(Drop)]
 pub struct Pointer {
     pub stars: Stars,
     pub extent: Option<Extent>,
 }
 
 /// A declarator of a field or global (ISO/IEC 9899:2011, 6.7.6).
-#[derive(Debug, Drop)]
+#[derive(Drop)]
 pub struct Declarator {
     pub pointer: Option<Pointer>,
     pub name: Name,
@@ -37,7 +37,7 @@ pub struct Declarator {
 }
 
 /// The written initial value of a global.
-#[derive(Debug, Drop)]
+#[derive(Drop)]
 pub enum Constant {
     Number(Number),
     Negative(Number),
@@ -50,14 +50,14 @@ pub enum Constant {
 }
 
 /// A declarator of a global, with its initial value where one is written (6.7.9).
-#[derive(Debug, Drop)]
+#[derive(Drop)]
 pub struct GlobalDeclarator {
     pub declarator: Declarator,
     pub initial: Option<Constant>,
 }
 
 /// A declarator of a local.
-#[derive(Debug, Drop)]
+#[derive(Drop)]
 pub struct LocalDeclarator {
     pub pointer: Option<Pointer>,
     pub name: Name,
@@ -65,7 +65,7 @@ pub struct LocalDeclarator {
 }
 
 /// A parameter (6.7.6.3).
-#[derive(Debug, Drop)]
+#[derive(Drop)]
 pub struct Parameter {
     pub base: Base,
     pub pointer: Option<Pointer>,
@@ -73,21 +73,21 @@ pub struct Parameter {
 }
 
 /// Fields of one base, one or more (6.7.2.1).
-#[derive(Debug, Drop)]
+#[derive(Drop)]
 pub struct Fields {
     pub base: Base,
     pub declarators: Items<Declarator>,
 }
 
 /// Locals of one base, one or more.
-#[derive(Debug, Drop)]
+#[derive(Drop)]
 pub struct Locals {
     pub base: Base,
     pub declarators: Items<LocalDeclarator>,
 }
 
 /// What stands first between the parentheses of `for`.
-#[derive(Debug, Drop)]
+#[derive(Drop)]
 pub enum ForStart {
     Nothing,
     Locals(Locals),
@@ -95,7 +95,7 @@ pub enum ForStart {
 }
 
 /// A statement (6.8), or an entry of a block. The number is the place of the keyword.
-#[derive(Debug, Drop)]
+#[derive(Drop)]
 pub enum Stmt {
     /// A declaration of locals. It is an entry of a block alone.
     Locals(Locals),
@@ -113,7 +113,7 @@ pub enum Stmt {
 }
 
 /// The body of a function.
-#[derive(Debug, Drop)]
+#[derive(Drop)]
 pub struct Body {
     /// `E_NOTELOCALS` stands before it.
     pub noted: bool,
@@ -121,7 +121,7 @@ pub struct Body {
 }
 
 /// A function that is declared, or defined where it has a body (6.9.1).
-#[derive(Debug, Drop)]
+#[derive(Drop)]
 pub struct Function {
     /// None is `void`.
     pub result: Option<Base>,
@@ -132,7 +132,7 @@ pub struct Function {
 }
 
 /// An external declaration (6.9).
-#[derive(Debug, Drop)]
+#[derive(Drop)]
 pub enum Item {
     /// A struct that is mentioned, or defined where it has fields.
     Struct(Name, Option<Items<Fields>>),
@@ -142,7 +142,7 @@ pub enum Item {
 }
 
 /// A C file, and how many bytes it has.
-#[derive(Debug, Drop)]
+#[derive(Drop)]
 pub struct File {
     pub items: Items<Item>,
     pub length: u32,

@@ -20,7 +20,7 @@ pub(crate) struct Argument {
 }
 
 /// What a call wants of an argument: a value of a parameter's type, or one for a piece of a format.
-#[derive(Clone, Copy, Debug)]
+#[derive(Clone, Copy)]
 pub(crate) enum Wanted {
     Parameter(CType),
     Piece(Conversion),
@@ -28,7 +28,9 @@ pub(crate) enum Wanted {
 
 impl Argument {
     /// Lets the argument go.
-    pub(crate) fn let_go(self) {}
+    pub(crate) fn let_go(self) {
+        drop(self)
+    }
 
     /// Its value as a condition takes it, in a call at `up`.
     #[tactic(auto, using(kt_names::proofs::Parts::parts))]

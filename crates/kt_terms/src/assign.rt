@@ -20,7 +20,7 @@ use kt_names::operand::{Operand, Value, number_value};
 use kt_tree::Expr;
 
 /// How a place changes: where the whole expression begins, whether its value is the one before, and by which operator.
-#[derive(Clone, Copy, Debug)]
+#[derive(Clone, Copy)]
 pub(crate) struct Change {
     pub at: u32,
     pub old: bool,
@@ -164,26 +164,40 @@ pub(crate) fn changed(
         Operand::CellPlace(ty, expression) => {
             change_cell(env, change, Value { ty, expression }, v)
         }
-        Operand::Valued(_, _) => refused(v, fault),
+        Operand::Valued(_, gone) => {
+            drop(gone);
+            refused(v, fault)
+        }
         Operand::Zero => refused(v, fault),
         Operand::Null => refused(v, fault),
-        Operand::ArrayPlace(_, _) => refused(v, fault),
-        Operand::WholePlace(_, _) => refused(v, fault),
-        Operand::NoResult(_) => refused(v, fault),
+        Operand::ArrayPlace(_, gone) => {
+            drop(gone);
+            refused(v, fault)
+        }
+        Operand::WholePlace(_, gone) => {
+            drop(gone);
+            refused(v, fault)
+        }
+        Operand::NoResult(gone) => {
+            drop(gone);
+            refused(v, fault)
+        }
     }
 }
 
 /// A fault, for which a value is let go.
-fn refused(_v: Value, fault: CheckFault) -> Result<Operand, CheckFault>
+fn refused(v: Value, fault: CheckFault) -> Result<Operand, CheckFault>
     ensures { result ≡ Err fault }
 {
+    drop(v);
     Err(fault)
 }
 
 /// A fault, for which an operand is let go.
-fn unfit(_e: Operand, fault: CheckFault) -> Result<Operand, CheckFault>
+fn unfit(e: Operand, fault: CheckFault) -> Result<Operand, CheckFault>
     ensures { result ≡ Err fault }
 {
+    drop(e);
     Err(fault)
 }
 
@@ -249,12 +263,24 @@ fn assigned(
         Operand::CellPlace(ty, expression) => {
             assign_cell(env, at, right, Value { ty, expression }, e)
         }
-        Operand::Valued(_, _) => unfit(e, fault),
+        Operand::Valued(_, gone) => {
+            drop(gone);
+            unfit(e, fault)
+        }
         Operand::Zero => unfit(e, fault),
         Operand::Null => unfit(e, fault),
-        Operand::ArrayPlace(_, _) => unfit(e, fault),
-        Operand::WholePlace(_, _) => unfit(e, fault),
-        Operand::NoResult(_) => unfit(e, fault),
+        Operand::ArrayPlace(_, gone) => {
+            drop(gone);
+            unfit(e, fault)
+        }
+        Operand::WholePlace(_, gone) => {
+            drop(gone);
+            unfit(e, fault)
+        }
+        Operand::NoResult(gone) => {
+            drop(gone);
+            unfit(e, fault)
+        }
     }
 }
 

@@ -160,11 +160,15 @@ fn elements_between(
     ensures { Judges operand_of result (elements_between (environment_of env.now) at (value_of p) (value_of q) (pointee p.ty)) }
 {
     match p.ty.pointee() {
-        None => Err(CheckFault::BadType { at }),
+        None => {
+            drop((p, q));
+            Err(CheckFault::BadType { at })
+        }
         Some(e) => {
             if env.is_complete(e) {
                 counted_between(env, p, q, e)
             } else {
+                drop((p, q));
                 Err(CheckFault::Incomplete { at })
             }
         }

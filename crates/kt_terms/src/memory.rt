@@ -111,7 +111,10 @@ fn allocated(
 {
     match named_type(env, t) {
         Ok(own) => allocated_at(env, struct_place(&t.base, at), own, zeros, count),
-        Err(fault) => Err(fault),
+        Err(fault) => {
+            drop(count);
+            Err(fault)
+        }
     }
 }
 
@@ -191,7 +194,10 @@ pub(crate) fn memory_by(
     ensures { JudgesArgument x operand_of result (memory_by (environment_of env.now) up (spelled spelling.entry)) }
 {
     match spelling {
-        Spelling::Size(at, t) => one_element(env, at, t),
+        Spelling::Size(at, t) => {
+            drop(x);
+            one_element(env, at, t)
+        }
         Spelling::Text(_) => bytes_by(env, up, x),
         Spelling::Name(_) => bytes_by(env, up, x),
         Spelling::Null => bytes_by(env, up, x),

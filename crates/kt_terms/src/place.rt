@@ -45,11 +45,15 @@ fn element_place(env: &Environment<'_>, at: u32, p: Value, i: Value) -> Result<O
     ensures { Judges operand_of result (element_place (environment_of env.now) at (value_of p) (value_of i) (pointee p.ty)) }
 {
     match p.ty.pointee() {
-        None => Err(CheckFault::BadType { at }),
+        None => {
+            drop((p, i));
+            Err(CheckFault::BadType { at })
+        }
         Some(e) => {
             if env.is_complete(e) {
                 element_at(env, p, i, e)
             } else {
+                drop((p, i));
                 Err(CheckFault::Incomplete { at })
             }
         }
@@ -86,10 +90,17 @@ fn field_pointer(
 ) -> Result<Expr, CheckFault>
     ensures { Judges expression_of result (Ok (field_pointer (environment_of env.now) number (expression_of pointer) (found_as [] field))) }
 {
-    let ty = env.place(field.ty.pointer_to()?);
-    let operation = Operation::Field(number, field.index);
-    let pointer = node::operated_on(env.alloc, operation, ty, pointer)?;
-    Ok(pointer)
+    match field.ty.pointer_to() {
+        Ok(t) => {
+            let operation = Operation::Field(number, field.index);
+            let pointer = node::operated_on(env.alloc, operation, env.place(t), pointer)?;
+            Ok(pointer)
+        }
+        Err(fault) => {
+            drop(pointer);
+            Err(fault)
+        }
+    }
 }
 
 /// The place of a field: an array field is one of its elements' type.
@@ -120,9 +131,15 @@ fn field_place(
     ensures { Judges operand_of result (field_place (environment_of env.now) at (expression_of pointer) field.now (struct_in (environment_of env.now) t)) }
 {
     match env.struct_in(t) {
-        None => Err(CheckFault::Incomplete { at }),
+        None => {
+            drop(pointer);
+            Err(CheckFault::Incomplete { at })
+        }
         Some((number, info)) => match info.field_named(field.word.as_bytes()) {
-            None => Err(CheckFault::Unknown { at: field.at }),
+            None => {
+                drop(pointer);
+                Err(CheckFault::Unknown { at: field.at })
+            }
             Some(found) => field_of(env, number, pointer, found),
         },
     }
@@ -141,6 +158,7 @@ fn struct_field(
     if t.is_struct() {
         field_place(env, at, pointer, field, t)
     } else {
+        drop(pointer);
         Err(CheckFault::BadType { at })
     }
 }
@@ -156,13 +174,25 @@ pub(crate) fn member(
 {
     match a {
         Operand::WholePlace(t, pointer) => struct_field(env, at, pointer, field, t),
-        Operand::Valued(_, _) => Err(CheckFault::BadType { at }),
+        Operand::Valued(_, gone) => {
+            drop(gone);
+            Err(CheckFault::BadType { at })
+        }
         Operand::Zero => Err(CheckFault::BadType { at }),
         Operand::Null => Err(CheckFault::BadType { at }),
         Operand::LocalPlace(_, _) => Err(CheckFault::BadType { at }),
-        Operand::CellPlace(_, _) => Err(CheckFault::BadType { at }),
-        Operand::ArrayPlace(_, _) => Err(CheckFault::BadType { at }),
-        Operand::NoResult(_) => Err(CheckFault::BadType { at }),
+        Operand::CellPlace(_, gone) => {
+            drop(gone);
+            Err(CheckFault::BadType { at })
+        }
+        Operand::ArrayPlace(_, gone) => {
+            drop(gone);
+            Err(CheckFault::BadType { at })
+        }
+        Operand::NoResult(gone) => {
+            drop(gone);
+            Err(CheckFault::BadType { at })
+        }
     }
 }
 
@@ -176,7 +206,10 @@ fn pointed_field(
     ensures { Judges operand_of result (pointed_field (environment_of env.now) at (expression_of p.expression) field.now (pointee p.ty)) }
 {
     match p.ty.pointee() {
-        None => Err(CheckFault::BadType { at }),
+        None => {
+            drop(p);
+            Err(CheckFault::BadType { at })
+        }
         Some(t) => struct_field(env, at, p.expression, field, t),
     }
 }

@@ -71,7 +71,10 @@ fn dereferenced(at: u32, p: Value) -> Result<Operand, CheckFault>
     ensures { Judges operand_of result (dereferenced at (value_of p) (pointee p.ty)) }
 {
     match p.ty.pointee() {
-        None => Err(CheckFault::BadType { at }),
+        None => {
+            drop(p);
+            Err(CheckFault::BadType { at })
+        }
         Some(e) => Ok(place_at(e, p.expression)),
     }
 }
@@ -80,8 +83,13 @@ fn dereferenced(at: u32, p: Value) -> Result<Operand, CheckFault>
 fn pointing(t: CType, pointer: Expr) -> Result<Operand, CheckFault>
     ensures { Judges operand_of result (Ok (Valued (pointer_to t) (expression_of pointer))) }
 {
-    let ty = t.pointer_to()?;
-    Ok(Operand::Valued(ty, pointer))
+    match t.pointer_to() {
+        Ok(ty) => Ok(Operand::Valued(ty, pointer)),
+        Err(fault) => {
+            drop(pointer);
+            Err(fault)
+        }
+    }
 }
 
 /// `&x`
@@ -91,12 +99,21 @@ fn address_of(at: u32, a: Operand) -> Result<Operand, CheckFault>
     match a {
         Operand::CellPlace(t, pointer) => pointing(t, pointer),
         Operand::WholePlace(t, pointer) => pointing(t, pointer),
-        Operand::Valued(_, _) => Err(CheckFault::BadType { at }),
+        Operand::Valued(_, gone) => {
+            drop(gone);
+            Err(CheckFault::BadType { at })
+        }
         Operand::Zero => Err(CheckFault::BadType { at }),
         Operand::Null => Err(CheckFault::BadType { at }),
         Operand::LocalPlace(_, _) => Err(CheckFault::BadType { at }),
-        Operand::ArrayPlace(_, _) => Err(CheckFault::BadType { at }),
-        Operand::NoResult(_) => Err(CheckFault::BadType { at }),
+        Operand::ArrayPlace(_, gone) => {
+            drop(gone);
+            Err(CheckFault::BadType { at })
+        }
+        Operand::NoResult(gone) => {
+            drop(gone);
+            Err(CheckFault::BadType { at })
+        }
     }
 }
 

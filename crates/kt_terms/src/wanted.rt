@@ -174,7 +174,10 @@ fn with_wanted(
     ensures { (s : Checked Operand) → (r : Checked Expressions) → Judges operand_of x.typed s → Judges last_first rest r → Judges last_first result (with_wanted (environment_of env.now) up wanted (argument_at x s) r) }
 {
     match wanted {
-        None => Err(CheckFault::BadType { at: up }),
+        None => {
+            drop((x, rest));
+            Err(CheckFault::BadType { at: up })
+        }
         Some(wanted) => with_operand(wanted_value(env, up, wanted, x), rest),
     }
 }

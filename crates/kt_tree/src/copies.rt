@@ -98,7 +98,7 @@ pub fn copy_expr(expr: &Expr, alloc: Global) -> Result<Expr, AllocError>
 }
 
 // Two copies, where both were made.
-fn both<A: Drop, B: Drop>(
+pub(crate) fn both<A: Drop, B: Drop>(
     a: Result<A, AllocError>,
     b: Result<B, AllocError>,
 ) -> Result<(A, B), AllocError>
@@ -146,20 +146,24 @@ pub fn copy_stmt(stmt: &Stmt, alloc: Global) -> Result<Stmt, AllocError>
         Stmt::Expr(expr) => Ok(Stmt::Expr(copy_expr(expr, alloc)?)),
         Stmt::Undefine(local) => Ok(Stmt::Undefine(*local)),
         Stmt::Block(block) => Ok(Stmt::Block(copy_stmts(block, alloc)?)),
-        Stmt::If(test, then, other) => Ok(Stmt::If(
-            copy_expr(test, alloc)?,
-            copy_boxed_stmt(then, alloc)?,
-            copy_boxed_stmt(other, alloc)?,
-        )),
-        Stmt::Loop(test, step, body) => Ok(Stmt::Loop(
-            copy_if_some(test, alloc)?,
-            copy_if_some(step, alloc)?,
-            copy_boxed_stmt(body, alloc)?,
-        )),
-        Stmt::Repeat(body, test) => Ok(Stmt::Repeat(
-            copy_boxed_stmt(body, alloc)?,
-            copy_expr(test, alloc)?,
-        )),
+        Stmt::If(test, then, other) => {
+            let (test, (then, other)) = both(
+                copy_expr(test, alloc),
+                both(copy_boxed_stmt(then, alloc), copy_boxed_stmt(other, alloc)),
+            )?;
+            Ok(Stmt::If(test, then, other))
+        }
+        Stmt::Loop(test, step, body) => {
+            let ((test, step), body) = both(
+                both(copy_if_some(test, alloc), copy_if_some(step, alloc)),
+                copy_boxed_stmt(body, alloc),
+            )?;
+            Ok(Stmt::Loop(test, step, body))
+        }
+        Stmt::Repeat(body, test) => {
+            let (body, test) = both(copy_boxed_stmt(body, alloc), copy_expr(test, alloc))?;
+            Ok(Stmt::Repeat(body, test))
+        }
         Stmt::Return(value) => Ok(Stmt::Return(copy_if_some(value, alloc)?)),
         Stmt::Break => Ok(Stmt::Break),
         Stmt::Continue => Ok(Stmt::Continue),

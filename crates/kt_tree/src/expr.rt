@@ -3,7 +3,7 @@
 use sqlite_items::{Boxed, Items};
 
 /// A value that stands in the text.
-#[derive(Clone, Copy, PartialEq, Eq, Debug)]
+#[derive(Clone, Copy, PartialEq, Eq)]
 pub enum Constant {
     Number(i64),
     Null,
@@ -14,7 +14,7 @@ pub enum Constant {
 }
 
 /// What an expression does with the values of its operands, without touching memory (ISO/IEC 9899:2011, 6.3, 6.5).
-#[derive(Clone, Copy, PartialEq, Eq, Debug)]
+#[derive(Clone, Copy, PartialEq, Eq)]
 pub enum Operation {
     Add,
     Subtract,
@@ -41,7 +41,7 @@ pub enum Operation {
 }
 
 /// A part of what `printf` writes.
-#[derive(Debug, Drop)]
+#[derive(Drop)]
 pub enum Part {
     Bytes(Items<u8>),
     /// `%d` and `%ld`: the next operand as a decimal number.
@@ -53,7 +53,7 @@ pub enum Part {
 }
 
 /// What an expression asks of the world: an act on what threads share.
-#[derive(Debug, Drop)]
+#[derive(Drop)]
 pub enum Request {
     /// Of a pointer: the value of the cell there, of the type of the whole.
     Load,
@@ -83,7 +83,7 @@ pub enum Request {
 }
 
 /// A typed expression. Each load and store of a global or heap cell is a `Request` of its own.
-#[derive(Debug, Drop)]
+#[derive(Drop)]
 pub enum Expr {
     /// A value and its type.
     Constant(Constant, u32),

@@ -3,6 +3,7 @@ ghost use Rattle.std.specs.Prelude.{◌≡◌, IfOk};
 ghost use Rattle.std.specs.Option.{option_map};
 ghost use Rattle.kt_tree.specs.Tree.{expression_of, expressions_of, LocalSet, LocalSwapped, Operated, Requested, Modified, Both, Either, Chosen, Called, statement_of, statements_of, Compound, Conditional, Looped, Repeated};
 
+use super::copies::both;
 use super::expr::{Expr, Operation, Request};
 use super::stmt::Stmt;
 use sqlite_items::{Boxed, Items};
@@ -54,8 +55,7 @@ impl Expr {
     ) -> Result<Expr, AllocError>
         ensures { IfOk result (λ e. expression_of e ≡ Modified operation own ty old (expression_of place) (expression_of operand)) }
     {
-        let place = Boxed::new(alloc, place)?;
-        let operand = Boxed::new(alloc, operand)?;
+        let (place, operand) = both(boxed(alloc, place), boxed(alloc, operand))?;
         Ok(Expr::Modify(operation, own, ty, old, place, operand))
     }
 
@@ -64,8 +64,7 @@ impl Expr {
     pub fn and(alloc: Global, a: Expr, b: Expr) -> Result<Expr, AllocError>
         ensures { IfOk result (λ e. expression_of e ≡ Both (expression_of a) (expression_of b)) }
     {
-        let a = Boxed::new(alloc, a)?;
-        let b = Boxed::new(alloc, b)?;
+        let (a, b) = both(boxed(alloc, a), boxed(alloc, b))?;
         Ok(Expr::And(a, b))
     }
 
@@ -74,8 +73,7 @@ impl Expr {
     pub fn or(alloc: Global, a: Expr, b: Expr) -> Result<Expr, AllocError>
         ensures { IfOk result (λ e. expression_of e ≡ Either (expression_of a) (expression_of b)) }
     {
-        let a = Boxed::new(alloc, a)?;
-        let b = Boxed::new(alloc, b)?;
+        let (a, b) = both(boxed(alloc, a), boxed(alloc, b))?;
         Ok(Expr::Or(a, b))
     }
 
@@ -84,9 +82,7 @@ impl Expr {
     pub fn choice(alloc: Global, test: Expr, ty: u32, a: Expr, b: Expr) -> Result<Expr, AllocError>
         ensures { IfOk result (λ e. expression_of e ≡ Chosen (expression_of test) ty (expression_of a) (expression_of b)) }
     {
-        let test = Boxed::new(alloc, test)?;
-        let a = Boxed::new(alloc, a)?;
-        let b = Boxed::new(alloc, b)?;
+        let (test, (a, b)) = both(boxed(alloc, test), both(boxed(alloc, a), boxed(alloc, b)))?;
         Ok(Expr::Choice(test, ty, a, b))
     }
 
@@ -113,8 +109,7 @@ impl Stmt {
     pub fn if_else(alloc: Global, test: Expr, a: Stmt, b: Stmt) -> Result<Stmt, AllocError>
         ensures { IfOk result (λ s. statement_of s ≡ Conditional (expression_of test) (statement_of a) (statement_of b)) }
     {
-        let a = Boxed::new(alloc, a)?;
-        let b = Boxed::new(alloc, b)?;
+        let (test, (a, b)) = both(Ok(test), both(boxed(alloc, a), boxed(alloc, b)))?;
         Ok(Stmt::If(test, a, b))
     }
 
@@ -128,7 +123,8 @@ impl Stmt {
     ) -> Result<Stmt, AllocError>
         ensures { IfOk result (λ s. statement_of s ≡ Looped (option_map expression_of test) (option_map expression_of step) (statement_of body)) }
     {
-        Ok(Stmt::Loop(test, step, Boxed::new(alloc, body)?))
+        let ((test, step), body) = both(Ok((test, step)), boxed(alloc, body))?;
+        Ok(Stmt::Loop(test, step, body))
     }
 
     /// `do body while (test);`
@@ -136,6 +132,17 @@ impl Stmt {
     pub fn repeat(alloc: Global, body: Stmt, test: Expr) -> Result<Stmt, AllocError>
         ensures { IfOk result (λ s. statement_of s ≡ Repeated (statement_of body) (expression_of test)) }
     {
-        Ok(Stmt::Repeat(Boxed::new(alloc, body)?, test))
+        let (body, test) = both(boxed(alloc, body), Ok(test))?;
+        Ok(Stmt::Repeat(body, test))
+    }
+}
+
+// The value in a box. Where there is no memory, it is let go here, and not by each caller.
+fn boxed<T: Drop>(alloc: Global, x: T) -> Result<Boxed<T>, AllocError>
+    ensures { IfOk result (λ b. b ≡ x) }
+{
+    match Boxed::new(alloc, x) {
+        Ok(b) => Ok(b),
+        Err(_) => Err(AllocError),
     }
 }

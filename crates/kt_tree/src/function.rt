@@ -4,7 +4,7 @@ use kt_types::Text;
 
 /// A defined function. Its first locals are its parameters, `params` of them. A result of none is `void`; `noted` is true
 /// where it is declared with `E_NOTELOCALS`.
-#[derive(Debug, Drop)]
+#[derive(Drop)]
 pub struct Fun {
     pub name: Text,
     pub result: Option<u32>,

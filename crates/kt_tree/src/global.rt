@@ -1,7 +1,7 @@
 use kt_types::{Text, View};
 
 /// The initial value of a global (ISO/IEC 9899:2011, 6.7.9).
-#[derive(Clone, Copy, PartialEq, Eq, Debug)]
+#[derive(Clone, Copy, PartialEq, Eq)]
 pub enum Init {
     /// Of a global without an initialiser: its cells are zero, null or free.
     Zero,
@@ -15,7 +15,7 @@ pub enum Init {
 
 /// A global: `ty` is the place of its element's type; `array` is true where its declaration has a number in brackets, which
 /// is `count`, and else `count` is 1.
-#[derive(Clone, Debug, Drop)]
+#[derive(Clone, Drop)]
 pub struct GlobalDecl {
     pub name: Text,
     pub ty: u32,

@@ -9,7 +9,7 @@ use std::alloc::{AllocError, Global};
 use std::marker::Model;
 
 /// The globals of a version, in the order of the file.
-#[derive(Debug, Drop)]
+#[derive(Drop)]
 pub struct Globals {
     items: Vec<GlobalDecl>,
 }
@@ -62,7 +62,7 @@ impl Clone for Globals {
 }
 
 /// The strings of a version, each without the zero at its end.
-#[derive(Debug, Drop)]
+#[derive(Drop)]
 pub struct Literals {
     items: Vec<Text>,
 }
@@ -109,7 +109,7 @@ impl Clone for Literals {
 }
 
 /// The locals of a function: its parameters, and then the rest in the order of declaration.
-#[derive(Debug, Drop)]
+#[derive(Drop)]
 pub struct Locals {
     items: Vec<FieldDecl>,
 }
@@ -157,7 +157,7 @@ impl Clone for Locals {
 }
 
 /// The defined functions of a version, in the order of their definitions.
-#[derive(Debug, Drop)]
+#[derive(Drop)]
 pub struct Functions {
     items: Vec<Fun>,
 }

@@ -2,7 +2,7 @@ use super::expr::Expr;
 use sqlite_items::{Boxed, Items};
 
 /// A typed statement (ISO/IEC 9899:2011, 6.8).
-#[derive(Debug, Drop)]
+#[derive(Drop)]
 pub enum Stmt {
     Expr(Expr),
     /// The local of that number is undefined from here on: its declaration without an initialiser is reached.

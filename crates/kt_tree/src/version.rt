@@ -4,7 +4,7 @@ ghost use Rattle.kt_tree.specs.Names.{place_of};
 ghost use Rattle.kt_tree.specs.Tree.{function_of};
 ghost use Rattle.kt_tree.specs.Version.{Program, IsProgram, IsNumbered, global_names, function_names, update_points, program};
 
-use super::copies::copy_functions;
+use super::copies::{both, copy_functions};
 use super::function::Fun;
 use super::global::GlobalDecl;
 use super::lists::{Functions, Globals, Literals};
@@ -57,9 +57,42 @@ impl Version {
         requires numbered { IsNumbered (program types globals literals (map function_of functions) points) }
         ensures { IfOk result (λ v. v ≡ program types globals literals (map function_of functions) points) }
     {
-        let global_names = names_of_globals(alloc, globals.as_slice())?;
-        let function_names = names_of_functions(alloc, functions.as_slice())?;
-        let point_names = names_of(alloc, update_points(&points))?;
+        let global_names = match names_of_globals(alloc, globals.as_slice()) {
+            Ok(global_names) => global_names,
+            Err(e) => {
+                drop(types);
+                drop(globals);
+                drop(literals);
+                drop(functions);
+                drop(points);
+                return Err(e);
+            }
+        };
+        let function_names = match names_of_functions(alloc, functions.as_slice()) {
+            Ok(function_names) => function_names,
+            Err(e) => {
+                drop(types);
+                drop(globals);
+                drop(literals);
+                drop(functions);
+                drop(points);
+                drop(global_names);
+                return Err(e);
+            }
+        };
+        let point_names = match names_of(alloc, update_points(&points)) {
+            Ok(point_names) => point_names,
+            Err(e) => {
+                drop(types);
+                drop(globals);
+                drop(literals);
+                drop(functions);
+                drop(points);
+                drop(global_names);
+                drop(function_names);
+                return Err(e);
+            }
+        };
         Ok(Version {
             types,
             globals,
@@ -77,11 +110,15 @@ impl Version {
         ensures { IfOk result (λ v. v ≡ self.now) }
     {
         let alloc = self.globals.allocator();
-        let types = self.types.clone()?;
-        let globals = self.globals.clone()?;
-        let literals = self.literals.clone()?;
-        let functions = copy_functions(self.functions.as_slice(), alloc)?;
-        let points = self.points.clone()?;
+        let lists = both(
+            self.globals.clone(),
+            both(self.literals.clone(), self.points.clone()),
+        );
+        let functions = copy_functions(self.functions.as_slice(), alloc);
+        let (types, (functions, (globals, (literals, points)))) = both(
+            self.types.clone(),
+            both(functions, lists),
+        )?;
         Version::new(alloc, types, globals, literals, functions, points)
     }
 

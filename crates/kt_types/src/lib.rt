@@ -11,6 +11,3 @@ pub use faults::TypeFault;
 pub use kinds::{Field, FieldDecl, Ty, View};
 pub use lists::{Numbers, Points, Text, Turns};
 pub use table::{CELL_LIMIT, TypeTable, layout_law};
-
-#[cfg(test)]
-mod tests;

@@ -86,10 +86,22 @@ impl TypeTable {
         ensures { IfOk result (λ t. t ≡ scalar_table) }
     {
         let mut types = IndexMap::new(alloc);
-        types.insert(Ty::Char, 1)?;
-        types.insert(Ty::Int, 1)?;
-        types.insert(Ty::Long, 1)?;
-        types.insert(Ty::Mutex, 1)?;
+        if let Err(e) = types.insert(Ty::Char, 1) {
+            drop(types);
+            return Err(e.into());
+        }
+        if let Err(e) = types.insert(Ty::Int, 1) {
+            drop(types);
+            return Err(e.into());
+        }
+        if let Err(e) = types.insert(Ty::Long, 1) {
+            drop(types);
+            return Err(e.into());
+        }
+        if let Err(e) = types.insert(Ty::Mutex, 1) {
+            drop(types);
+            return Err(e.into());
+        }
         Ok(TypeTable {
             types,
             structs: IndexMap::new(alloc),

@@ -3,7 +3,7 @@
 use kt_mem::Trap;
 
 /// Where a run stands between an update's request and its end.
-#[derive(Clone, Copy, PartialEq, Eq, Debug)]
+#[derive(Clone, Copy)]
 pub enum Phase {
     /// No update is asked for.
     Run,
@@ -16,7 +16,7 @@ pub enum Phase {
 }
 
 /// How a closing went.
-#[derive(Clone, Copy, PartialEq, Eq, Debug)]
+#[derive(Clone, Copy)]
 pub enum Closed {
     /// It was accepted, with that many images.
     Ok(u64),
@@ -38,7 +38,7 @@ pub enum End {
 }
 
 /// An event between two turns: `turn` is the turns so far, and `k` the request, counted from 1.
-#[derive(Clone, Copy, PartialEq, Eq, Debug)]
+#[derive(Clone, Copy)]
 pub enum Mark {
     /// The request was made.
     Ask { turn: u32, k: u8 },

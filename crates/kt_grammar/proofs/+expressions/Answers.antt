@@ -13,17 +13,19 @@ pub levels::chain-returns-then-depth-eq0-clause-read : goal.levels::chain-return
 levels::chain-returns-then-depth-eq0-clause-read t c =
     is_chained_stuck _ _ _ _ _ _ _ _ _ _ c.loop-operator.invariant (sym c.in-Some.ensures) c.if-depth-eq0.true (rw c.behind_first-right.ensures.value at c.stuck.ensures)
 
-pub levels::chain-returns-in_err-y-clause-read : goal.levels::chain-returns-in_err-y-clause-read
-levels::chain-returns-in_err-y-clause-read t c =
+pub levels::chain-returns-in_err-left-clause-read : goal.levels::chain-returns-in_err-left-clause-read
+levels::chain-returns-in_err-left-clause-read t c =
     let p = err_from_is_err_and c.from_residual.result c.from_residual.ensures.1 in
     let lt : 0 < c.loop-operator.depth = omega (arith, c.if-depth-eq0.false) in
-    rw (p.1, p.2) (is_chained_not _ _ _ _ _ _ _ _ _ _ _ c.loop-operator.invariant (sym c.in-Some.ensures) lt (omega arith) (rw c.behind_first-right.ensures.value at c.in_err-y.ensures.read))
+    rw (p.1, p.2) (is_chained_not _ _ _ _ _ _ _ _ _ _ _ c.loop-operator.invariant (sym c.in-Some.ensures) lt (omega arith) (rw (c.behind_first-right.ensures.value, c.in_err-left.ensures.err) at c.level.ensures.read))
 
 pub levels::chain-loop-operator-preserved : goal.levels::chain-loop-operator-preserved
 levels::chain-loop-operator-preserved t c =
     let lt : 0 < c.loop-operator.depth = omega (arith, c.if-depth-eq0.false) in
-    is_chained_more _ _ _ _ _ c.in_ok-y.y _ _ _ _ _ _ _ c.loop-operator.invariant (sym c.in-Some.ensures) lt (omega arith) (rw c.behind_first-right.ensures.value at c.in_ok-y.ensures.read)
-    (omega (arith, c.in_ok-y.ensures.shorter, c.behind_first-right.ensures.shorter)) c.in_ok-x.ensures
+    let read = rw (c.behind_first-right.ensures.value, c.in_ok-left.ensures.ok.1) at c.level.ensures.read in
+    let shorter = rw c.in_ok-left.ensures.ok.1 at c.level.ensures.shorter in
+    is_chained_more _ _ _ _ _ c.in_ok-left.y _ _ _ _ _ _ _ c.loop-operator.invariant (sym c.in-Some.ensures) lt (omega arith) read
+    (omega (arith, shorter, c.behind_first-right.ensures.shorter)) (rw c.in_ok-left.ensures.ok.0 at c.in_ok-x.ensures)
 
 pub levels::chain-returns-clause-read : goal.levels::chain-returns-clause-read
 levels::chain-returns-clause-read t c = is_chained_whole _ _ _ _ _ _ _ _ c.loop-operator.invariant (sym c.in_default.ensures)

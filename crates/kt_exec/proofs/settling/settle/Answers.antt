@@ -10,8 +10,8 @@ returns-in_default-clause-stands c =
     let e : (p.frames ≡ []) × (c.pop.new.self ≡ []) = rw c.in_default.is at c.pop.ensures in
     ap (λ frames. record p { frames = frames }) (e.1 ∙ sym (e.0)) ∙ sym (settle-without-frame c.args.code.now p (e.0))
 
-pub returns-clause-fits : goal.returns-clause-fits
-returns-clause-fits c =
+pub returns-in-Ok-clause-fits : goal.returns-in-Ok-clause-fits
+returns-in-Ok-clause-fits c =
     let p = c.args.private.now in
     let code = c.args.code.now in
     let rest = c.run.new.rest in
@@ -21,4 +21,4 @@ returns-clause-fits c =
     ap (λ frames. record p { frames = frames }) (ap (λ f. f ∷ c.pop.new.self) c.from_frame-top.ensures ∙ sym popped) in
     let fits = fits-stands code p q c.in_ok-head.head (c.in_ok-head.ensures.stands ∙ ap (settle code) before) c.in_ok-head.ensures.head c.requires in
     subst (λ frames. Fits code (record rest { frames = frames }))
-    (sym (c.in_ok-push.ensures.ok ∙ ap (λ f. f ∷ rest.frames) c.into_frame.ensures)) fits
+    (sym (c.in-Ok.ensures.ok ∙ ap (λ f. f ∷ rest.frames) c.into_frame.ensures)) fits

@@ -4,8 +4,8 @@ use Rattle.std.proofs.ResultArms.{chosen}
 use Rattle.std.proofs.lemmas.Result.{err_from_is_err_and}
 use Rattle.kt_lex.specs.declared.token.LexFault.TheVariants.{NoMemory}
 use Rattle.kt_lex.specs.Tokens.{size_of, tokens_of}
-use Rattle.kt_lex.proofs.Fronts.{IsPieceOf, front-is}
-use Rattle.kt_lex.proofs.Reading.{IsRead, IsBehind, token_from, IsRead-start, IsRead-fault, IsRead-end, IsRead-next}
+use Rattle.kt_lex.proofs.Fronts.{IsPieceOf}
+use Rattle.kt_lex.proofs.Reading.{IsRead, IsBehind, token_from, IsRead-start, IsRead-piece, IsRead-fault, IsRead-end, IsRead-next}
 use Rattle.kt_lex.proofs.scan.read_all.Goals as goal
 use Rattle.kt_lex.proofs.scan.read_all.Goals.{After-behind-next}
 
@@ -14,13 +14,12 @@ loop-rest-init c =
     subst (λ l. IsRead c.args.bytes.now _ l c.args.bytes.now) (sym c.new-tokens.ensures.items) (IsRead-start c.args.bytes.now _ refl refl refl)
 
 -- the piece at the front, which fits the rest
-piece_fits : (c : After-behind-next) → IsPieceOf c.loop-rest.rest.now c.in_ok-piece.piece
-piece_fits c =
-    front-is c.loop-rest.place.at c.loop-rest.place.indented c.loop-rest.rest.now c.in_ok-piece.piece (omega (arith, false-eqb _ 0 c.loop-rest-test.ensures)) (sym c.in_ok-piece.ensures)
+piece_fits : (c : After-behind-next) → IsPieceOf c.loop-rest.invariant.before c.loop-rest.rest.now c.in_ok-piece.piece
+piece_fits c = IsRead-piece _ _ _ _ _ c.loop-rest.invariant (omega (arith, false-eqb _ 0 c.loop-rest-test.ensures)) (sym c.in_ok-piece.ensures)
 
 pub split_at-requires : goal.split_at-requires
 split_at-requires c =
-    let fits = front-is c.loop-rest.place.at c.loop-rest.place.indented c.loop-rest.rest.now c.in_ok-piece.piece (omega (arith, false-eqb _ 0 c.loop-rest-test.ensures)) (sym c.in_ok-piece.ensures) in
+    let fits = IsRead-piece _ _ _ _ _ c.loop-rest.invariant (omega (arith, false-eqb _ 0 c.loop-rest-test.ensures)) (sym c.in_ok-piece.ensures) in
     omega (arith, fits.within, c.size.ensures)
 
 pub returns-in_err-piece : goal.returns-in_err-piece

@@ -26,12 +26,12 @@ turn-requires-clause-ready c =
 pub loop-how-smaller : goal.loop-how-smaller
 loop-how-smaller c =
     nearer (job_of c.args.job.now) c.args.codes.now c.requires.codes c.requires.typed c.loop-how.machine c.loop-how.invariant
-    (sym c.ended.ensures ∙ c.in_default.is) c.turn.new.self c.in_ok-turn.ensures.world c.in_ok-turn.ensures.settled
+    (sym c.ended.ensures ∙ c.in_default.is) c.turn.new.self c.in_default-turn.ensures.world c.in_default-turn.ensures.settled
 
 pub loop-how-preserved : goal.loop-how-preserved
 loop-how-preserved c =
     turned (job_of c.args.job.now) c.args.codes.now c.requires.codes c.requires.typed c.loop-how.machine c.loop-how.invariant
-    (sym c.ended.ensures ∙ c.in_default.is) c.turn.new.self c.in_ok-turn.ensures.world c.in_ok-turn.ensures.settled
+    (sym c.ended.ensures ∙ c.in_default.is) c.turn.new.self c.in_default-turn.ensures.world c.in_default-turn.ensures.settled
 
 pub returns-in-Some : goal.returns-in-Some
 returns-in-Some c =

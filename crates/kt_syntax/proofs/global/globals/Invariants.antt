@@ -1,5 +1,4 @@
 use Rattle.std.proofs.Common.{◌≤◌, [], ◌∷◌, length}
-use Rattle.kt_grammar.specs.Cursor.{listed_at}
 use Rattle.kt_syntax.specs.Reading.{global_at}
 use Rattle.kt_syntax.proofs.Loops.{IsUnderWay, more_listed}
 use Rattle.kt_syntax.proofs.global.globals.Given as goal

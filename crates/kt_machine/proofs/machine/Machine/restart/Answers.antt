@@ -1,11 +1,11 @@
 use Rattle.std.proofs.Common.{◌<◌, ◌+◌, Some, arith, sym, subst, ap, ◌∙◌, slice_get}
 use Rattle.kt_mem.specs.declared.thread.Mode.TheVariants.{Updating}
 use Rattle.kt_tree.specs.Version.{Program}
-use Rattle.kt_code.specs.Code.{Code}
 use Rattle.kt_code.specs.Settling.{settle}
 use Rattle.kt_world.specs.Plain.{job_of}
 use Rattle.kt_world.specs.World.{Shared}
-use Rattle.kt_machine.specs.Engine.{code_entry}
+use Rattle.kt_machine.specs.declared.machine.Machine.{Machine}
+use Rattle.kt_machine.specs.Engine.{code_entry, world_of}
 use Rattle.kt_machine.proofs.Closings.{restart-world}
 use Rattle.kt_machine.proofs.Codes.{code-within, same-program}
 use Rattle.kt_machine.proofs.machine.Machine.restart.Goals as goal
@@ -17,8 +17,8 @@ in_force-compiled-requires c =
     let told = c.version-version.ensures in
     omega arith
 
-pub enter_main-requires : goal.enter_main-requires
-enter_main-requires c =
+pub settled_main-requires : goal.settled_main-requires
+settled_main-requires c =
     let next = ap (λ (s : Shared). s.version) (c.in_ok-update.ensures.shared c.args.codes.now) in
     let v = c.args.self.now.shared.version + 1 in
     let at = ap (slice_get c.args.codes.now) (sym (c.version-version.ensures ∙ next)) ∙ c.in_force-compiled.ensures in
@@ -31,13 +31,14 @@ returns-clause-world c =
     let v = c.args.self.now.shared.version + 1 in
     let compiled = c.in_force-compiled.result.now in
     let at = ap (slice_get c.args.codes.now) (sym (c.version-version.ensures ∙ next)) ∙ c.in_force-compiled.ensures in
-    restart-world c.args.codes.now c.args.old.now c.args.new.now c.args.self.now c.args.self.now c.update.new.self.shared c.settle.new.private
-    c.in_ok-self-2.field-0 c.args.point compiled (c.in_ok-update.ensures.shared c.args.codes.now) at
-    (c.in_ok-self-2.ensures.stands ∙ ap (λ (k : Code). settle k c.in_ok-self.field-0) c.code.ensures
-    ∙ ap (settle compiled.code) (c.in_ok-self.ensures.entry ∙ ap (λ v. code_entry v (Updating c.args.point) (Some compiled)) (c.version-version.ensures ∙ next)))
+    ap world_of c.begin.ensures
+    ∙ restart-world c.args.codes.now c.args.old.now c.args.new.now c.args.self.now c.args.self.now c.update.new.self.shared
+    c.in_ok-private.private c.in_ok-private.head c.args.point compiled (c.in_ok-update.ensures.shared c.args.codes.now) at
+    (c.in_ok-private.ensures.stands ∙ ap (λ v. settle compiled.code (code_entry v (Updating c.args.point) (Some compiled))) (c.version-version.ensures ∙ next))
 
 pub returns-clause-version : goal.returns-clause-version
 returns-clause-version c =
     let next = ap (λ (s : Shared). s.version) (c.in_ok-update.ensures.shared c.args.codes.now) in
     let within = code-within (job_of c.args.job.now) c.args.codes.now c.requires.codes (c.args.self.now.shared.version + 1) c.args.new.now c.requires.new in
+    let kept = ap (λ (m : Machine). m.shared.version) c.begin.ensures in
     omega arith

@@ -18,7 +18,7 @@ pub invariant_of-result : goal.invariant_of-result
 invariant_of-result c = record {
   program = c.requires.program;
   numbered = c.requires.numbered;
-  global_names = c.in_ok-global_names.ensures ∙ ap (map (λ g. g.name)) c.as_slice.ensures;
-  function_names = c.in_ok-function_names.ensures ∙ ap (map (λ f. f.name)) c.as_slice-2.ensures ∙ sym (names-of-functions c.args.functions);
-  point_names = c.in_ok-point_names.ensures ∙ c.update_points.ensures;
+  global_names = c.in-Ok.ensures ∙ ap (map (λ g. g.name)) c.as_slice.ensures;
+  function_names = c.in-Ok-names_of_functions.ensures ∙ ap (map (λ f. f.name)) c.as_slice-2.ensures ∙ sym (names-of-functions c.args.functions);
+  point_names = c.in-Ok-names_of.ensures ∙ c.update_points.ensures;
 }

@@ -1,0 +1,3 @@
+pub mod Choice
+pub mod Enabled
+pub mod GeneratedJob

@@ -1,0 +1,5 @@
+//! Tests of `kt_heap` by its public calls.
+#![tactic(auto)]
+
+#[cfg(test)]
+mod tests;

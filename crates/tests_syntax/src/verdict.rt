@@ -1,0 +1,31 @@
+//! What `parse` answers of a text.
+
+use crate::print_file::file;
+use kt_lex::lex;
+use kt_syntax::{File, SyntaxFault, parse};
+use std::alloc::{AllocError, Global};
+
+fn read(alloc: Global, bytes: &[u8]) -> Result<File, SyntaxFault> {
+    if bytes.len() > 100_000 {
+        return Err(SyntaxFault::NoMemory);
+    }
+    match lex(alloc, bytes) {
+        Ok(tokens) => parse(alloc, &tokens, bytes),
+        Err(_) => Err(SyntaxFault::NoMemory),
+    }
+}
+
+/// The tree of a file, or the fault.
+pub(crate) fn shown(alloc: Global, text: &str) -> Result<String, AllocError> {
+    let mut out = String::new(alloc);
+    match read(alloc, text.as_bytes()) {
+        Ok(tree) => file(&mut out, &tree)?,
+        Err(fault) => write!(out, "{fault}")?,
+    }
+    Ok(out)
+}
+
+/// Nothing, or the fault.
+pub(crate) fn verdict(alloc: Global, text: &str) -> Option<SyntaxFault> {
+    read(alloc, text.as_bytes()).err()
+}
