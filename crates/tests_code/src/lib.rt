@@ -1,5 +1,7 @@
-//! Tests of `kt_code` by its public calls.
+//! Tests of `kt_code` and `kt_meaning` by their public calls.
 #![tactic(auto)]
 
 #[cfg(test)]
 mod tests;
+#[cfg(test)]
+mod threads;

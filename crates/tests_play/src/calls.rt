@@ -1,4 +1,7 @@
 //! Calls of `play` over devices in memory, and the small programs that several tests run.
+//!
+//! What a call answers is told as a text: the status, the output and the journal or line, with ` | ` between them. A newline
+//! is written `/`.
 
 use kt_edge::{MemFiles, MemSink, MemSource};
 use kt_play::play::play;
@@ -13,14 +16,6 @@ pub(crate) const APPEND_JOURNAL: &str = "kit 1\nturn 0 18\nend main 3\n";
 
 // It runs alone, and may not be updated so far.
 pub(crate) const LONG: &str = "long n; int main(){return 0;}";
-
-#[derive(Drop)]
-pub(crate) struct Played {
-    pub(crate) status: Status,
-    pub(crate) out: Vec<u8>,
-    pub(crate) log: Vec<u8>,
-    pub(crate) faults: u64,
-}
 
 // How many bytes a sink takes at once, and which of its writes fails (0: none).
 #[derive(Clone, Copy)]
@@ -73,68 +68,107 @@ pub(crate) fn source(alloc: Global, bytes: &[u8], fail_on: u64) -> Result<MemSou
     })
 }
 
-pub(crate) fn call_with(
+// The bytes, a newline as `/`.
+fn push_bytes(text: &mut String, bytes: &[u8]) -> Result<(), AllocError> {
+    for byte in bytes {
+        text.push(if *byte == b'\n' {
+            '/'
+        } else {
+            char::from(*byte)
+        })?;
+    }
+    Ok(())
+}
+
+// What is told of an answer.
+pub(crate) fn told(
     alloc: Global,
-    words: &[&str],
-    mut files: MemFiles,
-    mut input: MemSource,
-    out: Device,
-    log: Device,
-) -> Result<Played, AllocError> {
+    status: Status,
+    out: &[u8],
+    log: &[u8],
+) -> Result<String, AllocError> {
+    let mut text = format!(in alloc; "{status:?} | ")?;
+    push_bytes(&mut text, out)?;
+    text.push_str(" | ")?;
+    push_bytes(&mut text, log)?;
+    Ok(text)
+}
+
+fn list(alloc: Global, words: &[&str]) -> Result<Vec<String>, AllocError> {
     let mut list = Vec::new(alloc);
     for word in words {
         list.push(String::from_str(alloc, word)?)?;
     }
-    let mut out = sink(alloc, out)?;
-    let mut log = sink(alloc, log)?;
-    let status = play(
-        alloc,
-        list.as_slice(),
-        &mut files,
-        &mut input,
-        &mut out,
-        &mut log,
-    );
-    Ok(Played {
-        status,
-        out: out.taken.clone()?,
-        log: log.taken.clone()?,
-        faults: files.faults,
-    })
+    Ok(list)
 }
 
+pub(crate) fn call_with(
+    alloc: Global,
+    words: &[&str],
+    files: &mut MemFiles,
+    input: &mut MemSource,
+    out: Device,
+    log: Device,
+) -> Result<String, AllocError> {
+    let words = list(alloc, words)?;
+    let mut out = sink(alloc, out)?;
+    let mut log = sink(alloc, log)?;
+    let status = play(alloc, words.as_slice(), files, input, &mut out, &mut log);
+    told(alloc, status, out.taken.as_slice(), log.taken.as_slice())
+}
+
+// A call on an empty input.
 pub(crate) fn call(
     alloc: Global,
     words: &[&str],
-    files: MemFiles,
+    files: &mut MemFiles,
     out: Device,
     log: Device,
-) -> Result<Played, AllocError> {
-    let input = source(alloc, b"", 0)?;
-    call_with(alloc, words, files, input, out, log)
+) -> Result<String, AllocError> {
+    let mut input = source(alloc, b"", 0)?;
+    call_with(alloc, words, files, &mut input, out, log)
 }
 
 // A run of one version on an input.
-pub(crate) fn run_with(alloc: Global, text: &str, input: &[u8]) -> Result<Played, AllocError> {
-    let files = one(alloc, text, 0)?;
-    let input = source(alloc, input, 0)?;
-    call_with(alloc, &["one.c"], files, input, STEADY, STEADY)
+pub(crate) fn run_with(
+    alloc: Global,
+    text: &str,
+    input: &mut MemSource,
+) -> Result<String, AllocError> {
+    let mut files = one(alloc, text, 0)?;
+    call_with(alloc, &["one.c"], &mut files, input, STEADY, STEADY)
 }
 
-pub(crate) fn run(alloc: Global, text: &str) -> Result<Played, AllocError> {
-    call(alloc, &["one.c"], one(alloc, text, 0)?, STEADY, STEADY)
+pub(crate) fn run(alloc: Global, text: &str) -> Result<String, AllocError> {
+    let mut input = source(alloc, b"", 0)?;
+    run_with(alloc, text, &mut input)
 }
 
-pub(crate) fn expect(
-    rt: &impl std::process::Abort,
-    played: &Played,
-    status: Status,
-    out: &str,
-    log: &str,
-) {
-    assert_eq!(rt; played.status, status);
-    assert_eq!(rt; played.out.as_slice(), out.as_bytes());
-    assert_eq!(rt; played.log.as_slice(), log.as_bytes());
+// The first row of a table, an answer and behind it a version, whose run on an empty input answers otherwise, with that.
+pub(crate) fn differing(alloc: Global, table: &str) -> Result<String, AllocError> {
+    for row in table.lines() {
+        let (wanted, text) = row.split_once(" <- ").unwrap_or((row, ""));
+        let found = run(alloc, text)?;
+        if found.as_str() != wanted {
+            return format!(in alloc; "{found}, and not {row}");
+        }
+    }
+    Ok(String::new(alloc))
+}
+
+// A call on two versions and rules between them, with an input, and with this word for the second version.
+pub(crate) fn call_on_two(
+    alloc: Global,
+    texts: (&str, &str, &str),
+    third: &str,
+    fail_on: u64,
+    input: &mut MemSource,
+) -> Result<String, AllocError> {
+    let (old, rules, new) = texts;
+    let names = [("old.c", old), ("rules", rules), ("new.c", new)];
+    let mut files = files(alloc, &names, fail_on)?;
+    let words = ["old.c", "rules", third];
+    call_with(alloc, &words, &mut files, input, STEADY, STEADY)
 }
 
 // Files of blanks, of so many bytes each.

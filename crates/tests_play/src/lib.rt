@@ -1,5 +1,5 @@
 //! `play` over devices in memory: worked programs, a table of small ones, updates, refusals, the input, each device failing in
-//! turn, the limits of the heap and the output, and long runs.
+//! turn, and the limits of the heap and the output.
 #![tactic(auto)]
 
 #[cfg(test)]
@@ -12,10 +12,6 @@ mod limits;
 mod programs;
 #[cfg(test)]
 mod refusals;
-#[cfg(test)]
-mod speeds;
-#[cfg(test)]
-mod threads;
 #[cfg(test)]
 mod updates;
 #[cfg(test)]

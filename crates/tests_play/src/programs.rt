@@ -5,9 +5,8 @@
 //! A row has the turns, the end, the input, the output and the program, with ` | ` between them. A newline of the output is
 //! written `/`.
 
-use crate::calls::run_with;
+use crate::calls::{run_with, source};
 use std::alloc::{AllocError, Global};
-use std::process::Abort;
 use std::test::Fail;
 
 /// Operators on values of each integer type, and constants.
@@ -238,51 +237,36 @@ const OBJECT_TRAPS: &str = r#"
 197 | trap 0 heap |  |  | char *p; int main(){for (int i = 0; i < 64; i++) p = malloc(65536); free(p); p = malloc(65536); malloc(1); return 0;}
 "#;
 
-/// The output of a row's program as the row writes it.
-fn shown(alloc: Global, bytes: &[u8]) -> Result<Vec<u8>, AllocError> {
-    let mut shown = Vec::new(alloc);
-    for byte in bytes {
-        shown.push(if *byte == b'\n' { b'/' } else { *byte })?;
+/// The first row of a table whose program runs otherwise, with what is told of its run.
+fn differing_run(alloc: Global, table: &str) -> Result<String, AllocError> {
+    for row in table.lines().skip(1) {
+        let (turns, rest) = row.split_once(" | ").unwrap_or((row, ""));
+        let (end, rest) = rest.split_once(" | ").unwrap_or((rest, ""));
+        let (input, rest) = rest.split_once(" | ").unwrap_or((rest, ""));
+        let (output, program) = rest.split_once(" | ").unwrap_or((rest, ""));
+        let wanted = format!(in alloc; "{output} | kit 1/turn 0 {turns}/end {end}/")?;
+        let mut input = source(alloc, input.as_bytes(), 0)?;
+        let found = run_with(alloc, program, &mut input)?;
+        let (_, shown) = found.as_str().split_once(" | ").unwrap_or(("", ""));
+        if shown != wanted.as_str() {
+            return format!(in alloc; "{shown}, and not {row}");
+        }
     }
-    Ok(shown)
+    Ok(String::new(alloc))
 }
 
-/// Runs each program of a table.
-fn rows(rt: &impl Abort, alloc: Global, table: &str) -> Result<(), Fail> {
-    for row in table.lines().skip(1) {
-        let (turns, row) = row.split_once(" | ").ok_or("no turns")?;
-        let (end, row) = row.split_once(" | ").ok_or("no end")?;
-        let (input, row) = row.split_once(" | ").ok_or("no input")?;
-        let (output, program) = row.split_once(" | ").ok_or("no output")?;
-        let played = run_with(alloc, program, input.as_bytes())?;
-        let journal = format!(in alloc; "kit 1\nturn 0 {turns}\nend {end}\n")?;
-        assert_eq!(rt; played.log.as_slice(), journal.as_bytes(), "of {program}");
-        let written = shown(alloc, played.out.as_slice())?;
-        assert_eq!(rt; written.as_slice(), output.as_bytes(), "of {program}");
+#[test]
+fn programs_run(rt: HostRuntime) -> Result<(), Fail> {
+    for table in [VALUES, ASSIGNMENTS, STATEMENTS, FUNCTIONS] {
+        assert_eq!(rt; differing_run(rt.alloc(), table)?.as_str(), "");
     }
     Ok(())
 }
 
 #[test]
-fn expressions_run(rt: HostRuntime) -> Result<(), Fail> {
-    rows(&rt, rt.alloc(), VALUES)?;
-    rows(&rt, rt.alloc(), ASSIGNMENTS)
-}
-
-#[test]
-fn statements_and_functions_run(rt: HostRuntime) -> Result<(), Fail> {
-    rows(&rt, rt.alloc(), STATEMENTS)?;
-    rows(&rt, rt.alloc(), FUNCTIONS)
-}
-
-#[test]
-fn objects_and_calls_run(rt: HostRuntime) -> Result<(), Fail> {
-    rows(&rt, rt.alloc(), OBJECTS)?;
-    rows(&rt, rt.alloc(), CALLS)
-}
-
-#[test]
-fn traps_end_runs(rt: HostRuntime) -> Result<(), Fail> {
-    rows(&rt, rt.alloc(), NUMBER_TRAPS)?;
-    rows(&rt, rt.alloc(), OBJECT_TRAPS)
+fn programs_with_objects_run(rt: HostRuntime) -> Result<(), Fail> {
+    for table in [OBJECTS, CALLS, NUMBER_TRAPS, OBJECT_TRAPS] {
+        assert_eq!(rt; differing_run(rt.alloc(), table)?.as_str(), "");
+    }
+    Ok(())
 }

@@ -1,8 +1,6 @@
 //! Updates of a loop: at its point, without it, and runs that end before one.
 
-use crate::calls::{FIRST, Played, STEADY, call, expect, files};
-use kt_mem::Trap;
-use kt_play::status::Status;
+use crate::calls::{FIRST, call_on_two, source};
 use std::alloc::{AllocError, Global};
 use std::test::Fail;
 
@@ -22,17 +20,25 @@ const TWO_GLOBALS: &str =
 const NEW_GLOBAL: &str =
     "int k=65; int n; int main(void){kitsune_do_automigrate(); while(n<5){kitsune_update(\"loop\"); n=n+1; putchar(k);} return 0;}";
 
-const UPDATED: &str =
-    "kit 1\nask 1\nturn 0 4\nclose 1 ok 0\nturn 0 4\nmain 1\nback 1\nturn 0 29\nend main 0\n";
+const UPDATED: &str = "kit 1/ask 1/turn 0 4/close 1 ok 0/turn 0 4/main 1/back 1/turn 0 29/end main 0/";
 
-// A run of a version, a blank rule file, and the next version.
-fn update<'x>(alloc: Global, old: &'x str, new: &'x str) -> Result<Played, AllocError> {
-    let texts = files(
-        alloc,
-        &[("old.c", old), ("rules", " \t\r\n"), ("new.c", new)],
-        0,
-    )?;
-    call(alloc, &["old.c", "rules", "new.c"], texts, STEADY, STEADY)
+// To print or load one number more takes one turn more in each of the five bodies.
+const UPDATED_LONGER: &str =
+    "kit 1/ask 1/turn 0 4/close 1 ok 0/turn 0 4/main 1/back 1/turn 0 34/end main 0/";
+
+// Whether the run of a version, a blank rule file, and the next version has this answer, output and journal.
+fn updates(
+    alloc: Global,
+    versions: (&str, &str),
+    answer: &str,
+    output: &str,
+    journal: &str,
+) -> Result<bool, AllocError> {
+    let (old, new) = versions;
+    let mut input = source(alloc, b"", 0)?;
+    let found = call_on_two(alloc, (old, " \t\r\n", new), "new.c", 0, &mut input)?;
+    let wanted = format!(in alloc; "{answer} | {output} | {journal}")?;
+    Ok(found.as_str() == wanted.as_str())
 }
 
 // The same loop, which writes a line a turn, by `printf`; it has this letter, and a point of this name.
@@ -42,83 +48,60 @@ fn counting_loop(alloc: Global, letter: &str, point: &str) -> Result<String, All
     )
 }
 
+// Whether the update of that loop to one with the letter `b` and this point has this output and journal.
+fn counting_loop_updates(
+    alloc: Global,
+    point: &str,
+    output: &str,
+    journal: &str,
+) -> Result<bool, AllocError> {
+    let old = counting_loop(alloc, "a", "loop")?;
+    let new = counting_loop(alloc, "b", point)?;
+    updates(alloc, (old.as_str(), new.as_str()), "Main(0)", output, journal)
+}
+
 #[test]
 fn loop_updated_once(rt: HostRuntime) -> Result<(), Fail> {
-    let played = update(rt.alloc(), LOOP_A, LOOP_B)?;
-    expect(&rt, &played, Status::Main(0), "bbbbb", UPDATED);
-    // To print the number it is loaded, which takes one turn more in each of the five bodies.
-    let old = counting_loop(rt.alloc(), "a", "loop")?;
-    let new = counting_loop(rt.alloc(), "b", "loop")?;
-    let played = update(rt.alloc(), old.as_str(), new.as_str())?;
-    let journal =
-        "kit 1\nask 1\nturn 0 4\nclose 1 ok 0\nturn 0 4\nmain 1\nback 1\nturn 0 34\nend main 0\n";
-    expect(
-        &rt,
-        &played,
-        Status::Main(0),
-        "b1\nb2\nb3\nb4\nb5\n",
-        journal,
-    );
+    assert!(rt; updates(rt.alloc(), (LOOP_A, LOOP_B), "Main(0)", "bbbbb", UPDATED)?);
+    // The number is loaded to be printed.
+    let output = "b1/b2/b3/b4/b5/";
+    assert!(rt; counting_loop_updates(rt.alloc(), "loop", output, UPDATED_LONGER)?);
     Ok(())
 }
 
 #[test]
 fn point_missing_in_new_version(rt: HostRuntime) -> Result<(), Fail> {
-    let played = update(rt.alloc(), LOOP_A, OTHER_POINT)?;
-    let journal = "kit 1\nask 1\nturn 0 4\nclose 1 refused point 0\nturn 0 29\nend main 0\n";
-    expect(&rt, &played, Status::Main(0), "aaaaa", journal);
-    let old = counting_loop(rt.alloc(), "a", "loop")?;
-    let new = counting_loop(rt.alloc(), "b", "other")?;
-    let played = update(rt.alloc(), old.as_str(), new.as_str())?;
-    let journal = "kit 1\nask 1\nturn 0 4\nclose 1 refused point 0\nturn 0 34\nend main 0\n";
-    expect(
-        &rt,
-        &played,
-        Status::Main(0),
-        "a1\na2\na3\na4\na5\n",
-        journal,
-    );
+    let journal = "kit 1/ask 1/turn 0 4/close 1 refused point 0/turn 0 29/end main 0/";
+    assert!(rt; updates(rt.alloc(), (LOOP_A, OTHER_POINT), "Main(0)", "aaaaa", journal)?);
+    let journal = "kit 1/ask 1/turn 0 4/close 1 refused point 0/turn 0 34/end main 0/";
+    let output = "a1/a2/a3/a4/a5/";
+    assert!(rt; counting_loop_updates(rt.alloc(), "other", output, journal)?);
     Ok(())
 }
 
 #[test]
 fn globals_dropped_and_added(rt: HostRuntime) -> Result<(), Fail> {
-    let played = update(rt.alloc(), TWO_GLOBALS, LOOP_B)?;
-    expect(&rt, &played, Status::Main(0), "bbbbb", UPDATED);
-    // A new global keeps its initial value. Its load takes one turn more in each of the five bodies.
-    let played = update(rt.alloc(), LOOP_A, NEW_GLOBAL)?;
-    let journal =
-        "kit 1\nask 1\nturn 0 4\nclose 1 ok 0\nturn 0 4\nmain 1\nback 1\nturn 0 34\nend main 0\n";
-    expect(&rt, &played, Status::Main(0), "AAAAA", journal);
+    assert!(rt; updates(rt.alloc(), (TWO_GLOBALS, LOOP_B), "Main(0)", "bbbbb", UPDATED)?);
+    // A new global keeps its initial value; it is loaded to be printed.
+    let versions = (LOOP_A, NEW_GLOBAL);
+    assert!(rt; updates(rt.alloc(), versions, "Main(0)", "AAAAA", UPDATED_LONGER)?);
     Ok(())
 }
 
 #[test]
 fn updates_that_end_early(rt: HostRuntime) -> Result<(), Fail> {
     // The program never comes to a point.
-    let played = update(rt.alloc(), FIRST, LOOP_B)?;
-    expect(
-        &rt,
-        &played,
-        Status::Main(0),
-        "A",
-        "kit 1\nask 1\nturn 0 2\nend main 0\n",
-    );
+    let journal = "kit 1/ask 1/turn 0 2/end main 0/";
+    assert!(rt; updates(rt.alloc(), (FIRST, LOOP_B), "Main(0)", "A", journal)?);
     // A trap between the closing and the point.
     let parks = "int n; int main(){kitsune_update(\"loop\");return n;}";
     let traps = "int n=2147483647; int main(){n=n+1;kitsune_update(\"loop\");return n;}";
-    let played = update(rt.alloc(), parks, traps)?;
-    let status = Status::Trap {
-        thread: 0,
-        cause: Trap::Overflow,
-    };
-    let journal = "kit 1\nask 1\nturn 0 1\nclose 1 ok 0\nturn 0 2\nend trap 0 overflow\n";
-    expect(&rt, &played, status, "", journal);
+    let answer = "Trap { thread: 0, cause: Overflow }";
+    let journal = "kit 1/ask 1/turn 0 1/close 1 ok 0/turn 0 2/end trap 0 overflow/";
+    assert!(rt; updates(rt.alloc(), (parks, traps), answer, "", journal)?);
     // On the way to its point the thread passes a point of another name.
     let passes = "int n; int main(){kitsune_update(\"other\");kitsune_update(\"loop\");return n;}";
-    let played = update(rt.alloc(), parks, passes)?;
-    let journal =
-        "kit 1\nask 1\nturn 0 1\nclose 1 ok 0\nturn 0 2\nmain 1\nback 1\nturn 0 2\nend main 0\n";
-    expect(&rt, &played, Status::Main(0), "", journal);
+    let journal = "kit 1/ask 1/turn 0 1/close 1 ok 0/turn 0 2/main 1/back 1/turn 0 2/end main 0/";
+    assert!(rt; updates(rt.alloc(), (parks, passes), "Main(0)", "", journal)?);
     Ok(())
 }

@@ -1,99 +1,34 @@
 //! The worked programs: their output, their journal and their end.
 
-use crate::calls::{APPEND, APPEND_JOURNAL, FIRST, expect, run};
-use kt_mem::Trap;
-use kt_play::status::Status;
+use crate::calls::{APPEND, FIRST, differing, run};
 use std::test::Fail;
 
-const OVERFLOW: &str = "int n=2147483647; int main(){n=n+1;return 0;}";
-
-const ENDLESS: &str = "int main(){while(1){}}";
+/// Each with its answer before it.
+const PROGRAMS: &str = r#"Trap { thread: 0, cause: Overflow } |  | kit 1/turn 0 2/end trap 0 overflow/ <- int n=2147483647; int main(){n=n+1;return 0;}
+Budget |  | kit 1/turn 0 1000000/end budget/ <- int main(){while(1){}}
+Trap { thread: 0, cause: Overflow } |  | kit 1/turn 0 1/end trap 0 overflow/ <- int main(void){int x=2147483647; return x+1;}
+Trap { thread: 0, cause: Overflow } |  | kit 1/turn 0 1/end trap 0 overflow/ <- int main(void){int x=-2147483647-1; return x/-1;}
+Trap { thread: 0, cause: Zero } |  | kit 1/turn 0 1/end trap 0 zero/ <- int main(void){return 1/0;}
+Trap { thread: 0, cause: Range } |  | kit 1/turn 0 1/end trap 0 range/ <- int main(void){char c=300; return c;}
+Main(0) | -3 -1/ | kit 1/turn 0 2/end main 0/ <- int main(void){printf("%d %d\n",-7/2,-7%2); return 0&&1/0;}
+"#;
 
 #[test]
 fn first_program(rt: HostRuntime) -> Result<(), Fail> {
-    let played = run(rt.alloc(), FIRST)?;
-    expect(
-        &rt,
-        &played,
-        Status::Main(0),
-        "A",
-        "kit 1\nturn 0 2\nend main 0\n",
-    );
+    let found = run(rt.alloc(), FIRST)?;
+    assert_eq!(rt; found.as_str(), "Main(0) | A | kit 1/turn 0 2/end main 0/");
     Ok(())
 }
 
 #[test]
 fn append_loop_counts_turns(rt: HostRuntime) -> Result<(), Fail> {
-    let played = run(rt.alloc(), APPEND)?;
-    expect(&rt, &played, Status::Main(3), "aaa", APPEND_JOURNAL);
+    let found = run(rt.alloc(), APPEND)?;
+    assert_eq!(rt; found.as_str(), "Main(3) | aaa | kit 1/turn 0 18/end main 3/");
     Ok(())
 }
 
 #[test]
-fn overflow_traps(rt: HostRuntime) -> Result<(), Fail> {
-    let played = run(rt.alloc(), OVERFLOW)?;
-    let status = Status::Trap {
-        thread: 0,
-        cause: Trap::Overflow,
-    };
-    expect(
-        &rt,
-        &played,
-        status,
-        "",
-        "kit 1\nturn 0 2\nend trap 0 overflow\n",
-    );
-    Ok(())
-}
-
-#[test]
-fn budget_ends_an_endless_loop(rt: HostRuntime) -> Result<(), Fail> {
-    let played = run(rt.alloc(), ENDLESS)?;
-    expect(
-        &rt,
-        &played,
-        Status::Budget,
-        "",
-        "kit 1\nturn 0 1000000\nend budget\n",
-    );
-    Ok(())
-}
-
-#[test]
-fn arithmetic_traps(rt: HostRuntime) -> Result<(), Fail> {
-    for (text, cause, log) in [
-        (
-            "int main(void){int x=2147483647; return x+1;}",
-            Trap::Overflow,
-            "kit 1\nturn 0 1\nend trap 0 overflow\n",
-        ),
-        (
-            "int main(void){int x=-2147483647-1; return x/-1;}",
-            Trap::Overflow,
-            "kit 1\nturn 0 1\nend trap 0 overflow\n",
-        ),
-        (
-            "int main(void){return 1/0;}",
-            Trap::Zero,
-            "kit 1\nturn 0 1\nend trap 0 zero\n",
-        ),
-        (
-            "int main(void){char c=300; return c;}",
-            Trap::Range,
-            "kit 1\nturn 0 1\nend trap 0 range\n",
-        ),
-    ] {
-        let played = run(rt.alloc(), text)?;
-        expect(&rt, &played, Status::Trap { thread: 0, cause }, "", log);
-    }
-    Ok(())
-}
-
-#[test]
-fn division_and_short_circuit(rt: HostRuntime) -> Result<(), Fail> {
-    let text = "int main(void){printf(\"%d %d\\n\",-7/2,-7%2); return 0&&1/0;}";
-    let played = run(rt.alloc(), text)?;
-    let journal = "kit 1\nturn 0 2\nend main 0\n";
-    expect(&rt, &played, Status::Main(0), "-3 -1\n", journal);
+fn worked_programs_run(rt: HostRuntime) -> Result<(), Fail> {
+    assert_eq!(rt; differing(rt.alloc(), PROGRAMS)?.as_str(), "");
     Ok(())
 }

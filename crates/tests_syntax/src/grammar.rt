@@ -77,6 +77,7 @@ fn shown(alloc: Global, dialect: Dialect, depth: u32, bytes: &[u8]) -> Result<St
     let text = match expr(alloc, dialect, depth, &symbols) {
         Ok((x, rest)) => {
             let (whole, first, second) = parts(&x);
+            drop(x);
             let left = rest.len();
             format!(in alloc; "{whole} {first} {second} {left}")
         }
@@ -87,93 +88,107 @@ fn shown(alloc: Global, dialect: Dialect, depth: u32, bytes: &[u8]) -> Result<St
     text.map_err(Fail::from)
 }
 
-const C_TEXTS: [(&[u8], &str); 24] = [
-    // precedence and grouping
-    (b"a + b * c", "+ x * 0"),
-    (b"a * b + c", "+ * x 0"),
-    (b"a - b - c", "- - x 0"),
-    (b"a / b * c % d", "% * x 0"),
-    (b"a || b && c", "|| x && 0"),
-    (b"a && b == c", "&& x == 0"),
-    (b"a == b < c", "== x < 0"),
-    (b"a < b + c", "< x + 0"),
-    (b"a = b = c", "= x = 0"),
-    (b"a ? b : c ? d : e", "? x ? 0"),
-    (b"a ? b : c = d", "= ? x 0"),
-    (b"a ? b = c : d", "? = x 0"),
-    (b"a ? b, c : d", "syntax 4"),
-    // parentheses, casts and operators of one operand
-    (b"(int) a + b", "+ cast x 0"),
-    (b"(a) + b", "+ () x 0"),
-    (b"-a * b", "* prefix x 0"),
-    (b"*p++", "prefix step  0"),
-    (b"a.b->c[1]++", "step []  0"),
-    (b"f(a, b)(c)", "call   3"),
-    (b"sizeof(int *)", "sizeof   0"),
-    // where reading stops
-    (b"a b", "x   1"),
-    (b"a +", "syntax 0"),
-    (b"", "syntax 0"),
-    (b"int", "syntax 1"),
-];
+/// Precedence and grouping.
+const GROUPS: &str = "\
+a + b * c => + x * 0
+a * b + c => + * x 0
+a - b - c => - - x 0
+a / b * c % d => % * x 0
+a || b && c => || x && 0
+a && b == c => && x == 0
+a == b < c => == x < 0
+a < b + c => < x + 0
+a = b = c => = x = 0
+a ? b : c ? d : e => ? x ? 0
+a ? b : c = d => = ? x 0
+a ? b = c : d => ? = x 0
+a ? b, c : d => syntax 4
+";
 
-const RULE_TEXTS: [(&[u8], &str); 9] = [
-    (b"a = b", "x   2"),
-    (b"f(a)", "x   3"),
-    (b"$in + 1", "+ $ n 0"),
-    (b"$oldsym(g)->f", "-> $oldsym  0"),
-    (b"$xform(a)", "$xform x  0"),
-    (b"$xform a", "syntax 1"),
-    (b"++a", "syntax 2"),
-    (b"sizeof(int)", "syntax 4"),
-    (b"\"s\"", "syntax 1"),
-];
+/// Parentheses, casts and operators of one operand.
+const OPERANDS: &str = "\
+(int) a + b => + cast x 0
+(a) + b => + () x 0
+-a * b => * prefix x 0
+*p++ => prefix step  0
+a.b->c[1]++ => step []  0
+f(a, b)(c) => call   3
+sizeof(int *) => sizeof   0
+";
 
-const DEEP_TEXTS: [(u32, &[u8], &str); 16] = [
-    (0, b"a", "x   0"),
-    (0, b"a + b", "deep 1"),
-    (0, b"a +", "syntax 0"),
-    (1, b"a + b", "+ x x 0"),
-    (1, b"a + b + c", "deep 1"),
-    (2, b"a + b + c", "+ + x 0"),
-    (0, b"(a)", "deep 2"),
-    (0, b"-a", "deep 1"),
-    (0, b"(int) a", "deep 1"),
-    (0, b"a.b", ". x  0"),
-    (0, b"a.b.c", "deep 2"),
-    (1, b"a.b.c", ". .  0"),
-    (0, b"f()", "call   0"),
-    (0, b"f(a)", "deep 2"),
-    (0, b"a = b", "deep 1"),
-    (0, b"a ? b : c", "deep 3"),
-];
+/// Where reading stops.
+const ENDS: &str = "\
+a b => x   1
+a + => syntax 0
+ => syntax 0
+int => syntax 1
+";
 
-#[test]
-fn c_expressions(rt: HostRuntime) -> Result<(), Fail> {
-    for (bytes, expected) in C_TEXTS {
-        assert_eq!(rt; shown(rt.alloc(), Dialect::C, 9, bytes)?.as_str(), expected);
+/// Expressions of rules.
+const RULES: &str = "\
+a = b => x   2
+f(a) => x   3
+$in + 1 => + $ n 0
+$oldsym(g)->f => -> $oldsym  0
+$xform(a) => $xform x  0
+$xform a => syntax 1
+++a => syntax 2
+sizeof(int) => syntax 4
+\"s\" => syntax 1
+";
+
+/// Expressions, each behind how deep it may be.
+const DEEP: &str = "\
+0 a => x   0
+0 a + b => deep 1
+0 a + => syntax 0
+1 a + b => + x x 0
+1 a + b + c => deep 1
+2 a + b + c => + + x 0
+0 (a) => deep 2
+0 -a => deep 1
+0 (int) a => deep 1
+0 a.b => . x  0
+0 a.b.c => deep 2
+1 a.b.c => . .  0
+0 f() => call   0
+0 f(a) => deep 2
+0 a = b => deep 1
+0 a ? b : c => deep 3
+";
+
+/// The first row of a table whose text is read otherwise, with that.
+fn differing(alloc: Global, dialect: Dialect, table: &str) -> Result<String, Fail> {
+    for row in table.lines() {
+        let (text, want) = row.split_once(" => ").unwrap_or((row, ""));
+        let found = shown(alloc, dialect, 9, text.as_bytes())?;
+        if found.as_str() != want {
+            return format!(in alloc; "{found}, and not {row}").map_err(Fail::from);
+        }
     }
-    Ok(())
+    Ok(String::new(alloc))
+}
+
+/// The same where the text stands behind how deep it may be.
+fn differing_depth(alloc: Global, table: &str) -> Result<String, Fail> {
+    for row in table.lines() {
+        let (depth, rest) = row.split_once(' ').unwrap_or((row, ""));
+        let (text, want) = rest.split_once(" => ").unwrap_or((rest, ""));
+        let depth = depth.parse::<u32>().unwrap_or(0);
+        let found = shown(alloc, Dialect::C, depth, text.as_bytes())?;
+        if found.as_str() != want {
+            return format!(in alloc; "{found}, and not {row}").map_err(Fail::from);
+        }
+    }
+    Ok(String::new(alloc))
 }
 
 #[test]
-fn rule_expressions(rt: HostRuntime) -> Result<(), Fail> {
-    for (bytes, expected) in RULE_TEXTS {
-        assert_eq!(rt;
-            shown(rt.alloc(), Dialect::Rules, 9, bytes)?.as_str(),
-            expected
-        );
+fn expressions_are_read(rt: HostRuntime) -> Result<(), Fail> {
+    for table in [GROUPS, OPERANDS, ENDS] {
+        assert_eq!(rt; differing(rt.alloc(), Dialect::C, table)?.as_str(), "");
     }
-    Ok(())
-}
-
-#[test]
-fn depths(rt: HostRuntime) -> Result<(), Fail> {
-    for (depth, bytes, expected) in DEEP_TEXTS {
-        assert_eq!(rt;
-            shown(rt.alloc(), Dialect::C, depth, bytes)?.as_str(),
-            expected
-        );
-    }
+    assert_eq!(rt; differing(rt.alloc(), Dialect::Rules, RULES)?.as_str(), "");
+    assert_eq!(rt; differing_depth(rt.alloc(), DEEP)?.as_str(), "");
     Ok(())
 }

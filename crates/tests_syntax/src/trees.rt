@@ -214,86 +214,100 @@ a = b + c => (= a (+ b c))
 a + b = c => (= (+ a b) c)
 ";
 
+/// The frame with the part in the place of its `$`.
+fn framed(alloc: Global, frame: &str, part: &str) -> Result<String, AllocError> {
+    let (before, behind) = frame.split_once('$').unwrap_or((frame, ""));
+    format!(in alloc; "{before}{part}{behind}")
+}
+
+/// What else than the tree is told of the text, or nothing where it is the tree. Both stand in a frame.
+fn difference(
+    alloc: Global,
+    text: &str,
+    tree: &str,
+    frames: (&str, &str),
+) -> Result<String, AllocError> {
+    let file = framed(alloc, frames.0, text)?;
+    let wanted = framed(alloc, frames.1, tree)?;
+    let found = shown(alloc, file.as_str())?;
+    if found.as_str() == wanted.as_str() {
+        return Ok(String::new(alloc));
+    }
+    format!(in alloc; "{found}, and not {wanted}")
+}
+
+/// The first difference of a table.
+fn first_difference(
+    alloc: Global,
+    table: &str,
+    frames: (&str, &str),
+) -> Result<String, AllocError> {
+    for row in table.lines() {
+        let (text, tree) = row.split_once(" => ").unwrap_or((row, ""));
+        let found = difference(alloc, text, tree, frames)?;
+        if !found.is_empty() {
+            return Ok(found);
+        }
+    }
+    Ok(String::new(alloc))
+}
+
 #[test]
 fn files_have_their_trees(rt: HostRuntime) -> Result<(), Fail> {
-    assert_eq!(rt; shown(rt.alloc(), "")?.as_str(), "", "of nothing");
-    for row in FILES.lines() {
-        let (text, want) = row.split_once(" => ").ok_or("no arrow")?;
-        let found = shown(rt.alloc(), text)?;
-        assert_eq!(rt; found.as_str(), want, "of {text}");
-    }
+    assert_eq!(rt; shown(rt.alloc(), "")?.as_str(), "");
+    assert_eq!(rt;
+        first_difference(rt.alloc(), FILES, ("$", "$"))?.as_str(),
+        ""
+    );
     Ok(())
 }
 
-/// A text between two others.
-fn around(alloc: Global, before: &str, text: &str, after: &str) -> Result<String, AllocError> {
-    let mut out = String::from_str(alloc, before)?;
-    out.push_str(text)?;
-    out.push_str(after)?;
-    Ok(out)
-}
-
-/// A function with this one expression, and its tree with that of the expression.
-fn body(alloc: Global, text: &str, want: &str) -> Result<(String, String), AllocError> {
-    let wanted = around(alloc, "(function int f { ", want, "; })")?;
-    let file = around(alloc, "int f() { ", text, "; }")?;
-    let found = shown(alloc, file.as_str())?;
-    Ok((found, wanted))
-}
+/// A function with one expression, and its tree.
+const FUNCTION: (&str, &str) = ("int f() { $; }", "(function int f { $; })");
 
 #[test]
 fn expressions_have_their_trees(rt: HostRuntime) -> Result<(), Fail> {
     for table in [CASES, OPERATORS, PAIRS] {
-        for row in table.lines() {
-            let (text, want) = row.split_once(" => ").ok_or("no arrow")?;
-            let (found, wanted) = body(rt.alloc(), text, want)?;
-            assert_eq!(rt; found.as_str(), wanted.as_str(), "of {text}");
-        }
+        assert_eq!(rt; first_difference(rt.alloc(), table, FUNCTION)?.as_str(), "");
     }
     Ok(())
 }
 
-/// The operators of two operands, each with how close it binds (ISO/IEC 9899:2011, 6.5.5 to 6.5.14).
-const BINARY: [(&str, u8); 13] = [
-    ("||", 1),
-    ("&&", 2),
-    ("==", 3),
-    ("!=", 3),
-    ("<", 4),
-    (">", 4),
-    ("<=", 4),
-    (">=", 4),
-    ("+", 5),
-    ("-", 5),
-    ("*", 6),
-    ("/", 6),
-    ("%", 6),
-];
+/// The operators of two operands, each behind how close it binds (ISO/IEC 9899:2011, 6.5.5 to 6.5.14).
+const BINARY: &str = "\
+1 ||
+2 &&
+3 ==
+3 !=
+4 <
+4 >
+4 <=
+4 >=
+5 +
+5 -
+6 *
+6 /
+6 %
+";
 
-/// Two operators between three names: what is found, and what is wanted. The one that binds closer is inside the other, and
-/// the left one where they bind alike.
-fn pair(
-    alloc: Global,
-    left: (&str, u8),
-    right: (&str, u8),
-) -> Result<(String, String), AllocError> {
-    let (one, close) = left;
-    let (two, closer) = right;
-    let want = if close < closer {
+/// Two operators between three names: the one that binds closer is inside the other, and the left one where they bind alike.
+fn paired(alloc: Global, left: &str, right: &str) -> Result<String, AllocError> {
+    let (close, one) = left.split_once(' ').unwrap_or((left, ""));
+    let (closer, two) = right.split_once(' ').unwrap_or((right, ""));
+    let tree = if close < closer {
         format!(in alloc; "({one} a ({two} b c))")?
     } else {
         format!(in alloc; "({two} ({one} a b) c)")?
     };
     let text = format!(in alloc; "a {one} b {two} c")?;
-    body(alloc, text.as_str(), want.as_str())
+    difference(alloc, text.as_str(), tree.as_str(), FUNCTION)
 }
 
 #[test]
 fn operators_group_by_how_close_they_bind(rt: HostRuntime) -> Result<(), Fail> {
-    for left in BINARY {
-        for right in BINARY {
-            let (found, wanted) = pair(rt.alloc(), left, right)?;
-            assert_eq!(rt; found.as_str(), wanted.as_str());
+    for left in BINARY.lines() {
+        for right in BINARY.lines() {
+            assert_eq!(rt; paired(rt.alloc(), left, right)?.as_str(), "");
         }
     }
     Ok(())

@@ -17,15 +17,21 @@ fn read(alloc: Global, bytes: &[u8]) -> Result<File, SyntaxFault> {
 
 /// The tree of a file, or the fault.
 pub(crate) fn shown(alloc: Global, text: &str) -> Result<String, AllocError> {
-    let mut out = String::new(alloc);
     match read(alloc, text.as_bytes()) {
-        Ok(tree) => file(&mut out, &tree)?,
-        Err(fault) => write!(out, "{fault}")?,
+        Ok(tree) => {
+            let mut out = String::new(alloc);
+            let written = file(&mut out, &tree);
+            drop(tree);
+            written.map(|_| out)
+        }
+        Err(fault) => format!(in alloc; "{fault}"),
     }
-    Ok(out)
 }
 
-/// Nothing, or the fault.
-pub(crate) fn verdict(alloc: Global, text: &str) -> Option<SyntaxFault> {
-    read(alloc, text.as_bytes()).err()
+/// The fault of a file, or nothing.
+pub(crate) fn verdict(alloc: Global, text: &str) -> Result<String, AllocError> {
+    match read(alloc, text.as_bytes()).err() {
+        Some(fault) => format!(in alloc; "{fault}"),
+        None => Ok(String::new(alloc)),
+    }
 }

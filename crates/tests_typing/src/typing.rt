@@ -1,11 +1,10 @@
 //! What `check` answers of a file. A row is the answer, and behind it the file, where a backtick, which is not of the file,
 //! stands before the token at which a fault is told.
 
-use kt_check::check;
+use kt_check::{CheckFault, check};
 use kt_lex::lex;
 use kt_syntax::{File, SyntaxFault, parse};
 use std::alloc::{AllocError, Global};
-use std::process::Abort;
 use std::test::Fail;
 
 /// Structs and their fields.
@@ -193,63 +192,54 @@ pub(crate) fn read(alloc: Global, bytes: &[u8]) -> Result<File, SyntaxFault> {
     }
 }
 
-/// What is told of a file.
+/// What is told of a file: its fault, or that it is right.
 fn shown(alloc: Global, text: &str) -> Result<String, AllocError> {
-    let mut out = String::new(alloc);
     match read(alloc, text.as_bytes()) {
-        Ok(file) => match check(alloc, &file) {
-            Ok(_) => out.push_str("right")?,
-            Err(fault) => write!(out, "{fault}")?,
-        },
-        Err(fault) => write!(out, "{fault}")?,
+        Ok(file) => {
+            let fault = check(alloc, &file).err();
+            drop(file);
+            verdict(alloc, fault)
+        }
+        Err(fault) => format!(in alloc; "{fault}"),
     }
-    Ok(out)
 }
 
-/// What is told of the file of a row, and what should be.
-fn told(alloc: Global, row: &str) -> Result<(String, String), Fail> {
-    let (answer, file) = row.split_once(": ").ok_or("no answer")?;
-    let mut wanted = String::from_str(alloc, answer)?;
+fn verdict(alloc: Global, fault: Option<CheckFault>) -> Result<String, AllocError> {
+    match fault {
+        Some(fault) => format!(in alloc; "{fault}"),
+        None => String::from_str(alloc, "right"),
+    }
+}
+
+/// What should be told of the file of a row, and what is.
+fn judged(alloc: Global, row: &str) -> Result<(String, String), AllocError> {
+    let (answer, file) = row.split_once(": ").unwrap_or(("", row));
     match file.split_once('`') {
         Some((before, behind)) => {
-            write!(wanted, " at byte {}", before.len())?;
-            let mut text = String::from_str(alloc, before)?;
-            text.push_str(behind)?;
-            Ok((shown(alloc, text.as_str())?, wanted))
+            let at = before.len();
+            let text = format!(in alloc; "{before}{behind}")?;
+            let wanted = format!(in alloc; "{answer} at byte {at}")?;
+            Ok((wanted, shown(alloc, text.as_str())?))
         }
-        None => Ok((shown(alloc, file)?, wanted)),
+        None => Ok((String::from_str(alloc, answer)?, shown(alloc, file)?)),
     }
 }
 
-fn rows(rt: &impl Abort, alloc: Global, table: &str) -> Result<(), Fail> {
+/// The first row of a table of which something else is told, with that.
+fn differing(alloc: Global, table: &str) -> Result<String, AllocError> {
     for row in table.lines() {
-        let (found, wanted) = told(alloc, row)?;
-        assert_eq!(rt; found.as_str(), wanted.as_str(), "of {row}");
+        let (wanted, found) = judged(alloc, row)?;
+        if wanted.as_str() != found.as_str() {
+            return format!(in alloc; "{found}, and not {row}");
+        }
+    }
+    Ok(String::new(alloc))
+}
+
+#[test]
+fn files_are_judged(rt: HostRuntime) -> Result<(), Fail> {
+    for table in [STRUCTS, GLOBALS, FUNCTIONS, EXPRESSIONS, BUILTINS] {
+        assert_eq!(rt; differing(rt.alloc(), table)?.as_str(), "");
     }
     Ok(())
-}
-
-#[test]
-fn structs_are_judged(rt: HostRuntime) -> Result<(), Fail> {
-    rows(&rt, rt.alloc(), STRUCTS)
-}
-
-#[test]
-fn globals_are_judged(rt: HostRuntime) -> Result<(), Fail> {
-    rows(&rt, rt.alloc(), GLOBALS)
-}
-
-#[test]
-fn functions_are_judged(rt: HostRuntime) -> Result<(), Fail> {
-    rows(&rt, rt.alloc(), FUNCTIONS)
-}
-
-#[test]
-fn expressions_are_judged(rt: HostRuntime) -> Result<(), Fail> {
-    rows(&rt, rt.alloc(), EXPRESSIONS)
-}
-
-#[test]
-fn builtins_are_judged(rt: HostRuntime) -> Result<(), Fail> {
-    rows(&rt, rt.alloc(), BUILTINS)
 }
