@@ -16,12 +16,7 @@ const TOO_LONG: &str = "TooLong(Input) |  | refuse long input/";
 const RUN: &str = "Main(0) | A | kit 1/turn 0 2/end main 0/";
 
 // An input of so many bytes, which come in pieces; the given read of it fails (0: none).
-fn input_of(
-    alloc: Global,
-    count: usize,
-    piece: u32,
-    fail_on: u64,
-) -> Result<MemSource, AllocError>
+fn input_of(alloc: Global, count: usize, piece: u32, fail_on: u64) -> Result<MemSource, AllocError>
     requires { 0 < piece }
 {
     let mut rest = Vec::new(alloc);

@@ -32,7 +32,9 @@ fn differing_cause(alloc: Global, table: &str) -> Result<String, AllocError> {
     for row in table.lines().skip(1) {
         let (cause, rest) = row.split_once(" | ").unwrap_or((row, ""));
         let (line, text) = rest.split_once(" | ").unwrap_or((rest, ""));
-        let wanted = format!(in alloc; "Refused {{ file: 1, cause: {cause} }} |  | refuse 1 {line}/")?;
+        let wanted = format!(in alloc;
+            "Refused {{ file: 1, cause: {cause} }} |  | refuse 1 {line}/"
+        )?;
         let found = run(alloc, text)?;
         if found.as_str() != wanted.as_str() {
             return format!(in alloc; "{found}, and not {row}");
@@ -162,8 +164,9 @@ fn differing_order(alloc: Global, table: &str) -> Result<String, AllocError> {
         let (rules, new) = rest.split_once(':').unwrap_or((rest, ""));
         let (file, rest) = refused.split_once(' ').unwrap_or((refused, ""));
         let (cause, line) = rest.split_once(' ').unwrap_or((rest, ""));
-        let wanted =
-            format!(in alloc; "Refused {{ file: {file}, cause: {cause} }} |  | refuse {file} {line}/")?;
+        let wanted = format!(in alloc;
+            "Refused {{ file: {file}, cause: {cause} }} |  | refuse {file} {line}/"
+        )?;
         let texts = (version(old), rules, version(new));
         let mut input = source(alloc, b"", 0)?;
         let found = call_on_two(alloc, texts, "new.c", 0, &mut input)?;

@@ -20,7 +20,8 @@ const TWO_GLOBALS: &str =
 const NEW_GLOBAL: &str =
     "int k=65; int n; int main(void){kitsune_do_automigrate(); while(n<5){kitsune_update(\"loop\"); n=n+1; putchar(k);} return 0;}";
 
-const UPDATED: &str = "kit 1/ask 1/turn 0 4/close 1 ok 0/turn 0 4/main 1/back 1/turn 0 29/end main 0/";
+const UPDATED: &str =
+    "kit 1/ask 1/turn 0 4/close 1 ok 0/turn 0 4/main 1/back 1/turn 0 29/end main 0/";
 
 // To print or load one number more takes one turn more in each of the five bodies.
 const UPDATED_LONGER: &str =
@@ -57,7 +58,13 @@ fn counting_loop_updates(
 ) -> Result<bool, AllocError> {
     let old = counting_loop(alloc, "a", "loop")?;
     let new = counting_loop(alloc, "b", point)?;
-    updates(alloc, (old.as_str(), new.as_str()), "Main(0)", output, journal)
+    updates(
+        alloc,
+        (old.as_str(), new.as_str()),
+        "Main(0)",
+        output,
+        journal,
+    )
 }
 
 #[test]
@@ -72,7 +79,15 @@ fn loop_updated_once(rt: HostRuntime) -> Result<(), Fail> {
 #[test]
 fn point_missing_in_new_version(rt: HostRuntime) -> Result<(), Fail> {
     let journal = "kit 1/ask 1/turn 0 4/close 1 refused point 0/turn 0 29/end main 0/";
-    assert!(rt; updates(rt.alloc(), (LOOP_A, OTHER_POINT), "Main(0)", "aaaaa", journal)?);
+    assert!(rt;
+        updates(
+            rt.alloc(),
+            (LOOP_A, OTHER_POINT),
+            "Main(0)",
+            "aaaaa",
+            journal
+        )?
+    );
     let journal = "kit 1/ask 1/turn 0 4/close 1 refused point 0/turn 0 34/end main 0/";
     let output = "a1/a2/a3/a4/a5/";
     assert!(rt; counting_loop_updates(rt.alloc(), "other", output, journal)?);
@@ -81,7 +96,15 @@ fn point_missing_in_new_version(rt: HostRuntime) -> Result<(), Fail> {
 
 #[test]
 fn globals_dropped_and_added(rt: HostRuntime) -> Result<(), Fail> {
-    assert!(rt; updates(rt.alloc(), (TWO_GLOBALS, LOOP_B), "Main(0)", "bbbbb", UPDATED)?);
+    assert!(rt;
+        updates(
+            rt.alloc(),
+            (TWO_GLOBALS, LOOP_B),
+            "Main(0)",
+            "bbbbb",
+            UPDATED
+        )?
+    );
     // A new global keeps its initial value; it is loaded to be printed.
     let versions = (LOOP_A, NEW_GLOBAL);
     assert!(rt; updates(rt.alloc(), versions, "Main(0)", "AAAAA", UPDATED_LONGER)?);

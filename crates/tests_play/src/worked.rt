@@ -4,7 +4,8 @@ use crate::calls::{APPEND, FIRST, differing, run};
 use std::test::Fail;
 
 /// Each with its answer before it.
-const PROGRAMS: &str = r#"Trap { thread: 0, cause: Overflow } |  | kit 1/turn 0 2/end trap 0 overflow/ <- int n=2147483647; int main(){n=n+1;return 0;}
+const PROGRAMS: &str =
+    r#"Trap { thread: 0, cause: Overflow } |  | kit 1/turn 0 2/end trap 0 overflow/ <- int n=2147483647; int main(){n=n+1;return 0;}
 Budget |  | kit 1/turn 0 1000000/end budget/ <- int main(){while(1){}}
 Trap { thread: 0, cause: Overflow } |  | kit 1/turn 0 1/end trap 0 overflow/ <- int main(void){int x=2147483647; return x+1;}
 Trap { thread: 0, cause: Overflow } |  | kit 1/turn 0 1/end trap 0 overflow/ <- int main(void){int x=-2147483647-1; return x/-1;}
@@ -23,7 +24,10 @@ fn first_program(rt: HostRuntime) -> Result<(), Fail> {
 #[test]
 fn append_loop_counts_turns(rt: HostRuntime) -> Result<(), Fail> {
     let found = run(rt.alloc(), APPEND)?;
-    assert_eq!(rt; found.as_str(), "Main(3) | aaa | kit 1/turn 0 18/end main 3/");
+    assert_eq!(rt;
+        found.as_str(),
+        "Main(3) | aaa | kit 1/turn 0 18/end main 3/"
+    );
     Ok(())
 }
 

@@ -52,7 +52,10 @@ fn each_write_fails_in_turn(rt: HostRuntime) -> Result<(), Fail> {
             assert!(rt; journal_fails(rt.alloc(), piece, failing)?);
         }
         let found = steady(rt.alloc(), piece)?;
-        assert_eq!(rt; found.as_str(), "Main(3) | aaa | kit 1/turn 0 18/end main 3/");
+        assert_eq!(rt;
+            found.as_str(),
+            "Main(3) | aaa | kit 1/turn 0 18/end main 3/"
+        );
     }
     Ok(())
 }
