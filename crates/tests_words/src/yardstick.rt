@@ -67,6 +67,14 @@ fn behind_first(words: &[String]) -> &[String] {
     }
 }
 
+/// Whether both find the same in these words.
+fn is_same(alloc: Global, line: &str) -> Result<bool, Fail> {
+    let given = words(alloc, line)?;
+    let order = read_words(alloc, Program::Play, behind_first(given.as_slice()))?;
+    let matches = command(alloc)?.try_get_matches_from(given.as_slice())?;
+    Ok(same_numbers(&order, &matches) && same_files(&order, &matches))
+}
+
 #[test]
 fn clap_finds_the_same(rt: HostRuntime) -> Result<(), Fail> {
     for line in [
@@ -76,11 +84,7 @@ fn clap_finds_the_same(rt: HostRuntime) -> Result<(), Fail> {
         "kitplay --budget=1000 a.c",
         "kitplay --job 2000 --after 20000",
     ] {
-        let given = words(rt.alloc(), line)?;
-        let order = read_words(rt.alloc(), Program::Play, behind_first(given.as_slice()))?;
-        let matches = command(rt.alloc())?.try_get_matches_from(given.as_slice())?;
-        assert!(rt; same_numbers(&order, &matches), "at {line}");
-        assert!(rt; same_files(&order, &matches), "at {line}");
+        assert!(rt; is_same(rt.alloc(), line)?);
     }
     Ok(())
 }
