@@ -7,6 +7,7 @@ use kt_mem::{
     type_law,
 };
 use kt_types::{Text, Ty};
+use std::alloc::{AllocError, Global};
 use std::test::Fail;
 
 fn num(z: i64) -> Value {
@@ -23,255 +24,261 @@ fn heap(offset: u32) -> Value {
     Value::Ptr(Name::Heap(0), offset)
 }
 
-#[test]
-fn sums(rt: HostRuntime) {
-    let pointer = Ty::Ptr(2);
-    for (ty, a, b, want) in [
-        (Ty::Int, num(2147483646), num(1), Ok(num(2147483647))),
-        (Ty::Int, num(2147483647), num(1), Err(Trap::Overflow)),
-        (Ty::Int, num(-2147483648), num(-1), Err(Trap::Overflow)),
-        (Ty::Long, num(2147483647), num(1), Ok(num(2147483648))),
-        (Ty::Long, num(i64::MAX), num(1), Err(Trap::Overflow)),
-        (Ty::Char, num(100), num(27), Ok(num(127))),
-        (Ty::Char, num(100), num(28), Err(Trap::Overflow)),
-        (pointer, into(65_535), num(1), Ok(into(65_536))),
-        (pointer, into(65_536), num(1), Err(Trap::Bounds)),
-        (pointer, into(65_536), num(0), Ok(into(65_536))),
-        (pointer, num(3), heap(4), Ok(heap(7))),
-        (pointer, into(0), num(-1), Err(Trap::Bounds)),
-        (pointer, into(1), num(i64::MAX), Err(Trap::Bounds)),
-        (pointer, Value::Null, num(0), Err(Trap::Null)),
-        (pointer, Value::Null, num(65_537), Err(Trap::Null)),
-        (pointer, num(1), num(1), Err(Trap::Uninit)),
-        (Ty::Int, into(0), num(1), Err(Trap::Uninit)),
-        (Ty::Int, Value::Undef, num(1), Err(Trap::Uninit)),
-        (pointer, Value::Undef, num(1), Err(Trap::Uninit)),
-        (Ty::Mutex, num(1), num(1), Err(Trap::Uninit)),
-    ] {
-        assert_eq!(rt; add(ty, a, b), want, "{a:?} + {b:?} at {ty:?}");
+/// A type of a row; `pointer` is one to the type at place 2.
+fn type_of(word: &str) -> Ty {
+    match word {
+        "char" => Ty::Char,
+        "int" => Ty::Int,
+        "long" => Ty::Long,
+        "pointer" => Ty::Ptr(2),
+        _ => Ty::Mutex,
     }
 }
 
-#[test]
-fn differences(rt: HostRuntime) {
-    let pointer = Ty::Ptr(2);
-    for (ty, a, b, want) in [
-        (Ty::Int, num(-2147483647), num(1), Ok(num(-2147483648))),
-        (Ty::Int, num(-2147483648), num(1), Err(Trap::Overflow)),
-        (Ty::Int, num(0), num(-2147483648), Err(Trap::Overflow)),
-        (Ty::Long, num(0), num(i64::MIN), Err(Trap::Overflow)),
-        (pointer, into(65_536), num(65_536), Ok(into(0))),
-        (pointer, into(1), num(2), Err(Trap::Bounds)),
-        (pointer, into(0), num(i64::MIN), Err(Trap::Bounds)),
-        (pointer, Value::Null, num(1), Err(Trap::Null)),
-        (pointer, into(1), into(0), Err(Trap::Uninit)),
-        (Ty::Long, into(5), into(2), Ok(num(3))),
-        (Ty::Long, into(2), into(5), Ok(num(-3))),
-        (Ty::Long, into(2), heap(2), Err(Trap::Bounds)),
-        (Ty::Long, Value::Null, heap(2), Err(Trap::Null)),
-        (Ty::Long, heap(2), Value::Null, Err(Trap::Null)),
-        (Ty::Int, into(5), into(2), Err(Trap::Uninit)),
-        (Ty::Long, into(5), Value::Undef, Err(Trap::Uninit)),
-    ] {
-        assert_eq!(rt; sub(ty, a, b), want, "{a:?} - {b:?} at {ty:?}");
+/// A value of a row: a number, or the offset of a pointer behind `g` or `h`.
+fn value_of(word: &str) -> Value {
+    match word {
+        "null" => Value::Null,
+        "undef" => Value::Undef,
+        "free" => Value::Free,
+        _ => match (word.split_once('g'), word.split_once('h')) {
+            (Some((_, offset)), _) => into(offset.parse::<u32>().unwrap_or(0)),
+            (_, Some((_, offset))) => heap(offset.parse::<u32>().unwrap_or(0)),
+            _ => num(word.parse::<i64>().unwrap_or(0)),
+        },
     }
 }
 
-#[test]
-fn products(rt: HostRuntime) {
-    for (ty, a, b, want) in [
-        (Ty::Int, num(65_536), num(32_767), Ok(num(2147418112))),
-        (Ty::Int, num(65_536), num(32_768), Err(Trap::Overflow)),
-        (Ty::Int, num(65_536), num(-32_768), Ok(num(-2147483648))),
-        (
-            Ty::Long,
-            num(3037000499),
-            num(3037000499),
-            Ok(num(9223372030926249001)),
-        ),
-        (
-            Ty::Long,
-            num(3037000500),
-            num(3037000500),
-            Err(Trap::Overflow),
-        ),
-        (Ty::Long, num(i64::MIN), num(-1), Err(Trap::Overflow)),
-        (Ty::Ptr(2), num(1), num(1), Err(Trap::Uninit)),
-        (Ty::Int, num(0), Value::Undef, Err(Trap::Uninit)),
-    ] {
-        assert_eq!(rt; mul(ty, a, b), want, "{a:?} * {b:?} at {ty:?}");
+/// An answer as a row writes it; of a value that no row has, nothing.
+fn shown(alloc: Global, answer: Result<Value, Trap>) -> Result<String, AllocError> {
+    match answer {
+        Ok(Value::Num(z)) => format!(in alloc; "{z}"),
+        Ok(Value::Ptr(Name::Glob(0), offset)) => format!(in alloc; "g{offset}"),
+        Ok(Value::Ptr(Name::Heap(0), offset)) => format!(in alloc; "h{offset}"),
+        Ok(_) => Ok(String::new(alloc)),
+        Err(trap) => format!(in alloc; "{trap:?}"),
     }
 }
 
-#[test]
-fn quotients_and_remainders(rt: HostRuntime) {
-    for (ty, a, b, quotient, remainder) in [
-        (Ty::Int, num(7), num(2), Ok(num(3)), Ok(num(1))),
-        (Ty::Int, num(-7), num(2), Ok(num(-3)), Ok(num(-1))),
-        (Ty::Int, num(7), num(-2), Ok(num(-3)), Ok(num(1))),
-        (Ty::Int, num(-7), num(-2), Ok(num(3)), Ok(num(-1))),
-        (Ty::Int, num(1), num(0), Err(Trap::Zero), Err(Trap::Zero)),
-        (
-            Ty::Int,
-            num(-2147483648),
-            num(-1),
-            Err(Trap::Overflow),
-            Err(Trap::Overflow),
-        ),
-        (
-            Ty::Long,
-            num(-2147483648),
-            num(-1),
-            Ok(num(2147483648)),
-            Ok(num(0)),
-        ),
-        (
-            Ty::Long,
-            num(i64::MIN),
-            num(-1),
-            Err(Trap::Overflow),
-            Err(Trap::Overflow),
-        ),
-        (
-            Ty::Mutex,
-            num(1),
-            num(1),
-            Err(Trap::Uninit),
-            Err(Trap::Uninit),
-        ),
-        (
-            Ty::Int,
-            Value::Undef,
-            num(0),
-            Err(Trap::Uninit),
-            Err(Trap::Uninit),
-        ),
-        (
-            Ty::Int,
-            num(1),
-            Value::Null,
-            Err(Trap::Uninit),
-            Err(Trap::Uninit),
-        ),
-    ] {
-        assert_eq!(rt;
-            (div(ty, a, b), rem(ty, a, b)),
-            (quotient, remainder),
-            "{a:?} by {b:?} at {ty:?}"
-        );
+/// The first row of a table that is answered otherwise, with the answer.
+fn differing(alloc: Global, table: &str) -> Result<String, AllocError> {
+    for row in table.lines() {
+        let (asked, wanted) = row.split_once(" = ").unwrap_or((row, ""));
+        let (ty, rest) = asked.split_once(' ').unwrap_or((asked, ""));
+        let (a, rest) = rest.split_once(' ').unwrap_or((rest, ""));
+        let (sign, b) = rest.split_once(' ').unwrap_or((rest, ""));
+        let answer = answer(type_of(ty), value_of(a), sign, value_of(b));
+        let found = shown(alloc, answer)?;
+        if found.as_str() != wanted {
+            return format!(in alloc; "{found}, and not {row}");
+        }
+    }
+    Ok(String::new(alloc))
+}
+
+/// What the operation of a row answers.
+fn answer(ty: Ty, a: Value, sign: &str, b: Value) -> Result<Value, Trap> {
+    match sign {
+        "+" => add(ty, a, b),
+        "-" => sub(ty, a, b),
+        "*" => mul(ty, a, b),
+        "/" => div(ty, a, b),
+        "%" => rem(ty, a, b),
+        "as" => narrow(ty, a),
+        "==" => equal(a, b),
+        "!=" => not_equal(a, b),
+        "<" => less(a, b),
+        ">" => greater(a, b),
+        "<=" => less_equal(a, b),
+        _ => greater_equal(a, b),
     }
 }
 
+/// Sums: a type, two values, and what is answered.
+const SUMS: &str = "\
+int 2147483646 + 1 = 2147483647
+int 2147483647 + 1 = Overflow
+int -2147483648 + -1 = Overflow
+long 2147483647 + 1 = 2147483648
+long 9223372036854775807 + 1 = Overflow
+char 100 + 27 = 127
+char 100 + 28 = Overflow
+pointer g65535 + 1 = g65536
+pointer g65536 + 1 = Bounds
+pointer g65536 + 0 = g65536
+pointer 3 + h4 = h7
+pointer g0 + -1 = Bounds
+pointer g1 + 9223372036854775807 = Bounds
+pointer null + 0 = Null
+pointer null + 65537 = Null
+pointer 1 + 1 = Uninit
+int g0 + 1 = Uninit
+int undef + 1 = Uninit
+pointer undef + 1 = Uninit
+mutex 1 + 1 = Uninit
+";
+
+/// Differences.
+const DIFFERENCES: &str = "\
+int -2147483647 - 1 = -2147483648
+int -2147483648 - 1 = Overflow
+int 0 - -2147483648 = Overflow
+long 0 - -9223372036854775808 = Overflow
+pointer g65536 - 65536 = g0
+pointer g1 - 2 = Bounds
+pointer g0 - -9223372036854775808 = Bounds
+pointer null - 1 = Null
+pointer g1 - g0 = Uninit
+long g5 - g2 = 3
+long g2 - g5 = -3
+long g2 - h2 = Bounds
+long null - h2 = Null
+long h2 - null = Null
+int g5 - g2 = Uninit
+long g5 - undef = Uninit
+";
+
+/// Products.
+const PRODUCTS: &str = "\
+int 65536 * 32767 = 2147418112
+int 65536 * 32768 = Overflow
+int 65536 * -32768 = -2147483648
+long 3037000499 * 3037000499 = 9223372030926249001
+long 3037000500 * 3037000500 = Overflow
+long -9223372036854775808 * -1 = Overflow
+pointer 1 * 1 = Uninit
+int 0 * undef = Uninit
+";
+
+/// Quotients and remainders.
+const QUOTIENTS: &str = "\
+int 7 / 2 = 3
+int 7 % 2 = 1
+int -7 / 2 = -3
+int -7 % 2 = -1
+int 7 / -2 = -3
+int 7 % -2 = 1
+int -7 / -2 = 3
+int -7 % -2 = -1
+int 1 / 0 = Zero
+int 1 % 0 = Zero
+int -2147483648 / -1 = Overflow
+int -2147483648 % -1 = Overflow
+long -2147483648 / -1 = 2147483648
+long -2147483648 % -1 = 0
+long -9223372036854775808 / -1 = Overflow
+long -9223372036854775808 % -1 = Overflow
+mutex 1 / 1 = Uninit
+mutex 1 % 1 = Uninit
+int undef / 0 = Uninit
+int undef % 0 = Uninit
+int 1 / null = Uninit
+int 1 % null = Uninit
+";
+
+/// Conversions of the first value.
+const CONVERSIONS: &str = "\
+char 127 as 127 = 127
+char 128 as 128 = Range
+char -128 as -128 = -128
+char -129 as -129 = Range
+char 300 as 300 = Range
+int 2147483647 as 2147483647 = 2147483647
+int 2147483648 as 2147483648 = Range
+int -2147483649 as -2147483649 = Range
+long -9223372036854775808 as -9223372036854775808 = -9223372036854775808
+int undef as undef = Uninit
+pointer 0 as 0 = Uninit
+";
+
+/// Comparisons, which ask for no type.
+const COMPARISONS: &str = "\
+int -1 == 1 = 0
+int -1 < 1 = 1
+int -1 > 1 = 0
+int 1 == 1 = 1
+int 1 < 1 = 0
+int 1 > 1 = 0
+int g2 == g3 = 0
+int g2 < g3 = 1
+int g2 > g3 = 0
+int g3 == g3 = 1
+int g3 < g3 = 0
+int g3 > g3 = 0
+int g3 == h3 = 0
+int g3 < h3 = Bounds
+int g3 > h3 = Bounds
+int g0 == null = 0
+int g0 < null = Null
+int g0 > null = Null
+int null == null = 1
+int null < null = Null
+int null > null = Null
+int 0 == null = Uninit
+int 0 < null = Uninit
+int 0 > null = Uninit
+int undef == 0 = Uninit
+int undef < 0 = Uninit
+int undef > 0 = Uninit
+int 1 != 2 = 1
+int 2 <= 2 = 1
+int g1 >= g2 = 0
+";
+
 #[test]
-fn conversions(rt: HostRuntime) {
-    for (ty, a, want) in [
-        (Ty::Char, num(127), Ok(num(127))),
-        (Ty::Char, num(128), Err(Trap::Range)),
-        (Ty::Char, num(-128), Ok(num(-128))),
-        (Ty::Char, num(-129), Err(Trap::Range)),
-        (Ty::Char, num(300), Err(Trap::Range)),
-        (Ty::Int, num(2147483647), Ok(num(2147483647))),
-        (Ty::Int, num(2147483648), Err(Trap::Range)),
-        (Ty::Int, num(-2147483649), Err(Trap::Range)),
-        (Ty::Long, num(i64::MIN), Ok(num(i64::MIN))),
-        (Ty::Int, Value::Undef, Err(Trap::Uninit)),
-        (Ty::Ptr(2), num(0), Err(Trap::Uninit)),
+fn arithmetic(rt: HostRuntime) -> Result<(), Fail> {
+    for table in [
+        SUMS,
+        DIFFERENCES,
+        PRODUCTS,
+        QUOTIENTS,
+        CONVERSIONS,
+        COMPARISONS,
     ] {
-        assert_eq!(rt; narrow(ty, a), want, "{a:?} as {ty:?}");
+        assert_eq!(rt; differing(rt.alloc(), table)?.as_str(), "");
     }
+    Ok(())
+}
+
+/// Whether tests for zero, negations and the test for a value that was written answer so.
+fn zeros_are_told() -> bool {
+    is_zero(num(0)) == Ok(true)
+        && is_zero(num(-1)) == Ok(false)
+        && is_zero(Value::Null) == Ok(true)
+        && is_zero(into(0)) == Ok(false)
+        && is_zero(Value::Free) == Err(Trap::Uninit)
+        && is_zero(Value::Undef) == Err(Trap::Uninit)
+        && not(num(0)) == Ok(truth(true))
+        && not(into(0)) == Ok(truth(false))
+        && defined(Value::Held(3)) == Ok(Value::Held(3))
+        && defined(Value::Undef) == Err(Trap::Uninit)
+}
+
+/// Whether sums, and differences, of pointers and counts of elements answer so.
+fn elements_are_told() -> bool {
+    let most = num(i64::MAX);
+    add_elements(into(4), num(2), 3) == Ok(into(10))
+        && add_elements(into(4), num(-2), 2) == Ok(into(0))
+        && add_elements(into(4), num(-2), 3) == Err(Trap::Bounds)
+        && add_elements(into(0), most, 65_536) == Err(Trap::Bounds)
+        && add_elements(Value::Null, most, 65_536) == Err(Trap::Null)
+        && add_elements(into(0), Value::Undef, 1) == Err(Trap::Uninit)
+        && sub_elements(into(10), num(2), 3) == Ok(into(4))
+}
+
+/// Whether counts of elements between pointers answer so.
+fn counts_are_told() -> bool {
+    elements_between(into(10), into(4), 3) == Ok(num(2))
+        && elements_between(into(4), into(10), 3) == Ok(num(-2))
+        && elements_between(into(10), into(5), 3) == Err(Trap::Bounds)
+        && elements_between(into(5), Value::Null, 3) == Err(Trap::Null)
 }
 
 #[test]
-fn comparisons(rt: HostRuntime) {
-    let (yes, no) = (Ok(num(1)), Ok(num(0)));
-    for (a, b, want_equal, want_less, want_greater) in [
-        (num(-1), num(1), no, yes, no),
-        (num(1), num(1), yes, no, no),
-        (into(2), into(3), no, yes, no),
-        (into(3), into(3), yes, no, no),
-        (into(3), heap(3), no, Err(Trap::Bounds), Err(Trap::Bounds)),
-        (into(0), Value::Null, no, Err(Trap::Null), Err(Trap::Null)),
-        (
-            Value::Null,
-            Value::Null,
-            yes,
-            Err(Trap::Null),
-            Err(Trap::Null),
-        ),
-        (
-            num(0),
-            Value::Null,
-            Err(Trap::Uninit),
-            Err(Trap::Uninit),
-            Err(Trap::Uninit),
-        ),
-        (
-            Value::Undef,
-            num(0),
-            Err(Trap::Uninit),
-            Err(Trap::Uninit),
-            Err(Trap::Uninit),
-        ),
-    ] {
-        assert_eq!(rt;
-            (equal(a, b), less(a, b), greater(a, b)),
-            (want_equal, want_less, want_greater),
-            "{a:?} and {b:?}"
-        );
-    }
-    assert_eq!(rt;
-        (
-            not_equal(num(1), num(2)),
-            less_equal(num(2), num(2)),
-            greater_equal(into(1), into(2)),
-        ),
-        (yes, yes, no)
-    );
-}
-
-#[test]
-fn tests_for_zero(rt: HostRuntime) {
-    for (a, want) in [
-        (num(0), Ok(true)),
-        (num(-1), Ok(false)),
-        (Value::Null, Ok(true)),
-        (into(0), Ok(false)),
-        (Value::Free, Err(Trap::Uninit)),
-        (Value::Undef, Err(Trap::Uninit)),
-    ] {
-        assert_eq!(rt; is_zero(a), want, "{a:?}");
-    }
-    assert_eq!(rt;
-        (not(num(0)), not(into(0))),
-        (Ok(truth(true)), Ok(truth(false)))
-    );
-    assert_eq!(rt;
-        (defined(Value::Held(3)), defined(Value::Undef)),
-        (Ok(Value::Held(3)), Err(Trap::Uninit))
-    );
-}
-
-#[test]
-fn elements(rt: HostRuntime) {
-    for (p, i, width, want) in [
-        (into(4), num(2), 3, Ok(into(10))),
-        (into(4), num(-2), 2, Ok(into(0))),
-        (into(4), num(-2), 3, Err(Trap::Bounds)),
-        (into(0), num(i64::MAX), 65_536, Err(Trap::Bounds)),
-        (Value::Null, num(i64::MAX), 65_536, Err(Trap::Null)),
-        (into(0), Value::Undef, 1, Err(Trap::Uninit)),
-    ] {
-        assert_eq!(rt; add_elements(p, i, width), want, "{p:?} + {i:?} of {width}");
-    }
-    assert_eq!(rt; sub_elements(into(10), num(2), 3), Ok(into(4)));
-    for (p, q, want) in [
-        (into(10), into(4), Ok(num(2))),
-        (into(4), into(10), Ok(num(-2))),
-        (into(10), into(5), Err(Trap::Bounds)),
-        (into(5), Value::Null, Err(Trap::Null)),
-    ] {
-        assert_eq!(rt; elements_between(p, q, 3), want, "{p:?} - {q:?}");
-    }
+fn zeros_and_elements(rt: HostRuntime) {
+    assert!(rt; zeros_are_told());
+    assert!(rt; elements_are_told());
+    assert!(rt; counts_are_told());
 }
 
 #[test]
@@ -287,7 +294,7 @@ fn cells_keep_values(rt: HostRuntime) {
         Value::Undef,
     ] {
         let cell = Cell::new(Ty::Ptr(5), value);
-        assert_eq!(rt; (cell.ty(), cell.value()), (Ty::Ptr(5), value));
+        assert!(rt; cell.ty() == Ty::Ptr(5) && cell.value() == value);
     }
 }
 
