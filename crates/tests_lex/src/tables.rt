@@ -1,5 +1,7 @@
+//! Texts with their tokens or their fault. In a row the answer stands before a backtick, and a newline of the text is written `~`.
+
 use kt_lex::{Kind, LexFault, Token, character_of, lex, number_of, string_of};
-use std::alloc::Global;
+use std::alloc::{AllocError, Global};
 use std::test::Fail;
 
 fn letter(kind: Kind) -> char {
@@ -15,9 +17,9 @@ fn letter(kind: Kind) -> char {
 }
 
 /// The tokens as words `KIND AT-END` with a space behind each, or the fault.
-fn shown(alloc: Global, bytes: &[u8]) -> Result<String, Fail> {
+fn shown(alloc: Global, bytes: &[u8]) -> Result<String, AllocError> {
     if bytes.len() > 1000 {
-        return format!(in alloc; "too long").map_err(Fail::from);
+        return String::from_str(alloc, "too long");
     }
     match lex(alloc, bytes) {
         Ok(tokens) => words(alloc, &tokens),
@@ -25,183 +27,237 @@ fn shown(alloc: Global, bytes: &[u8]) -> Result<String, Fail> {
     }
 }
 
-fn words(alloc: Global, tokens: &[Token]) -> Result<String, Fail> {
+fn words(alloc: Global, tokens: &[Token]) -> Result<String, AllocError> {
     let mut text = String::new(alloc);
     for token in tokens {
         let kind = letter(token.kind);
         let at = token.at;
         let end = token.end;
-        text.push_str(format!(in alloc; "{kind}{at}-{end} ")?.as_str())?;
+        write!(text, "{kind}{at}-{end} ")?;
     }
     Ok(text)
 }
 
-fn fault_word(alloc: Global, fault: LexFault) -> Result<String, Fail> {
-    let word = match fault {
-        LexFault::Unclosed { at } => format!(in alloc; "unclosed {at}")?,
-        LexFault::Literal { at } => format!(in alloc; "literal {at}")?,
-        LexFault::Directive { at } => format!(in alloc; "directive {at}")?,
-        LexFault::Byte { at } => format!(in alloc; "byte {at}")?,
-        LexFault::NoMemory => format!(in alloc; "no memory")?,
-    };
-    Ok(word)
+fn fault_word(alloc: Global, fault: LexFault) -> Result<String, AllocError> {
+    match fault {
+        LexFault::Unclosed { at } => format!(in alloc; "unclosed {at}"),
+        LexFault::Literal { at } => format!(in alloc; "literal {at}"),
+        LexFault::Directive { at } => format!(in alloc; "directive {at}"),
+        LexFault::Byte { at } => format!(in alloc; "byte {at}"),
+        LexFault::NoMemory => String::from_str(alloc, "no memory"),
+    }
 }
 
-const TEXTS: [(&[u8], &str); 64] = [
-    // every kind
-    (b"", ""),
-    (b"a _b9 Int", "i0-1 i2-5 i6-9 "),
-    (b"int pthread_mutex_t ints", "k0-3 k4-19 i20-24 "),
-    (b"NULL EOF INIT E_PTRARRAY", "k0-4 k5-8 k9-13 k14-24 "),
-    (b"0 7 2147483647 10L 0l", "n0-1 n2-3 n4-14 n15-18 n19-21 "),
-    (b"'a' '\"' ' '", "c0-3 c4-7 c8-11 "),
-    (b"\"\" \"a\tb'\" \"\x80\xff\"", "t0-2 t3-9 t10-14 "),
-    (
-        b"$in $out $base $oldsym $xform",
-        "r0-3 r4-8 r9-14 r15-22 r23-29 ",
-    ),
-    (
-        b"{}()[];,.",
-        "s0-1 s1-2 s2-3 s3-4 s4-5 s5-6 s6-7 s7-8 s8-9 ",
-    ),
-    (
-        b"? : = < > + - * / % ! &",
-        "s0-1 s2-3 s4-5 s6-7 s8-9 s10-11 s12-13 s14-15 s16-17 s18-19 s20-21 s22-23 ",
-    ),
-    (
-        b"-> :: == != <= >= ++ --",
-        "s0-2 s3-5 s6-8 s9-11 s12-14 s15-17 s18-20 s21-23 ",
-    ),
-    (
-        b"+= -= *= /= %= && ||",
-        "s0-2 s3-5 s6-8 s9-11 s12-14 s15-17 s18-20 ",
-    ),
-    // every escape
-    (b"'\\n' '\\t' '\\r' '\\0'", "c0-4 c5-9 c10-14 c15-19 "),
-    (b"'\\\\' '\\'' '\\\"'", "c0-4 c5-9 c10-14 "),
-    (b"\"\\n\\t\\r\\0\\\\\\'\\\"\"", "t0-16 "),
-    (b"\"\\\"\" \"\\\\\"", "t0-4 t5-9 "),
-    // neighbours
-    (b"a+++b", "i0-1 s1-3 s3-4 i4-5 "),
-    (b"a---b", "i0-1 s1-3 s3-4 i4-5 "),
-    (b"x->y", "i0-1 s1-3 i3-4 "),
-    (b"x--->y", "i0-1 s1-3 s3-5 i5-6 "),
-    (b"a:::b", "i0-1 s1-3 s3-4 i4-5 "),
-    (b"a>==b", "i0-1 s1-3 s3-4 i4-5 "),
-    (b"a<<=b", "i0-1 s1-2 s2-4 i4-5 "),
-    (b"a&&&b", "i0-1 s1-3 s3-4 i4-5 "),
-    (b"a!==b", "i0-1 s1-3 s3-4 i4-5 "),
-    (b"a/b", "i0-1 s1-2 i2-3 "),
-    (b"a/ /b", "i0-1 s1-2 s3-4 i4-5 "),
-    (b"1.5", "n0-1 s1-2 n2-3 "),
-    (b"1-1", "n0-1 s1-2 n2-3 "),
-    // numbers
-    (b"0x1L 0XfF 0x0", "n0-4 n5-9 n10-13 "),
-    (b"9223372036854775807 0x7fffffffffffffff", "n0-19 n20-38 "),
-    (b"0x00000000000000001", "n0-19 "),
-    (b"9223372036854775808", "literal 0"),
-    (b" 0x8000000000000000", "literal 1"),
-    (b"99999999999999999999999", "literal 0"),
-    (b"08", "literal 0"),
-    (b"00", "literal 0"),
-    (b"0x", "literal 0"),
-    (b"0xL", "literal 0"),
-    (b"0xg", "literal 0"),
-    (b"1LL", "literal 0"),
-    (b"1u", "literal 0"),
-    (b"a 1e5", "literal 2"),
-    // comments
-    (b"a/**/b", "i0-1 i5-6 "),
-    (b"/***/a/*\n*/b", "i5-6 i11-12 "),
-    (b"a//b */ \" ' $\nc", "i0-1 i14-15 "),
-    (b"a//", "i0-1 "),
-    (b"a /*/", "unclosed 2"),
-    (b"/* // */a", "i8-9 "),
-    // quotes
-    (b"a 'b\n'", "unclosed 2"),
-    (b" \"a\\\"", "unclosed 1"),
-    (b"\"\\q", "unclosed 0"),
-    (b" \"\\q\"", "literal 1"),
-    (b"''", "literal 0"),
-    (b"'ab'", "literal 0"),
-    (b"'\\x'", "literal 0"),
-    (b"\"\r\"", "literal 0"),
-    // directives
-    (b"#include <stdio.h> ' $\na", "i23-24 "),
-    (b"\t # \tinclude\n#includefoo", ""),
-    (b"a\n #define b", "directive 3"),
-    (b"a #include", "byte 2"),
-    (b"/**/#include", "byte 4"),
-    // other bytes
-    (b"a @", "byte 2"),
-    (b"$inn $in", "byte 0"),
-];
+/// Every kind.
+const KINDS: &str = "\
+`
+i0-1 i2-5 i6-9 `a _b9 Int
+k0-3 k4-19 i20-24 `int pthread_mutex_t ints
+k0-4 k5-8 k9-13 k14-24 `NULL EOF INIT E_PTRARRAY
+n0-1 n2-3 n4-14 n15-18 n19-21 `0 7 2147483647 10L 0l
+c0-3 c4-7 c8-11 `'a' '\"' ' '
+r0-3 r4-8 r9-14 r15-22 r23-29 `$in $out $base $oldsym $xform
+s0-1 s1-2 s2-3 s3-4 s4-5 s5-6 s6-7 s7-8 s8-9 `{}()[];,.
+s0-1 s2-3 s4-5 s6-7 s8-9 s10-11 s12-13 s14-15 s16-17 s18-19 s20-21 s22-23 `? : = < > + - * / % ! &
+s0-2 s3-5 s6-8 s9-11 s12-14 s15-17 s18-20 s21-23 `-> :: == != <= >= ++ --
+s0-2 s3-5 s6-8 s9-11 s12-14 s15-17 s18-20 `+= -= *= /= %= && ||
+";
 
-const MORE_TEXTS: [(&[u8], &str); 7] = [
-    (b"$", "byte 0"),
-    (b"$$in", "byte 0"),
-    (b"a|b", "byte 1"),
-    (b"a\\", "byte 1"),
-    (b"\x80", "byte 0"),
-    (b"\r#include", "byte 1"),
-    (b"@ \"", "byte 0"),
-];
+/// Every escape.
+const ESCAPES: &str = "\
+c0-4 c5-9 c10-14 c15-19 `'\\n' '\\t' '\\r' '\\0'
+c0-4 c5-9 c10-14 `'\\\\' '\\'' '\\\"'
+t0-16 `\"\\n\\t\\r\\0\\\\\\'\\\"\"
+t0-4 t5-9 `\"\\\"\" \"\\\\\"
+";
+
+/// Neighbours.
+const NEIGHBOURS: &str = "\
+i0-1 s1-3 s3-4 i4-5 `a+++b
+i0-1 s1-3 s3-4 i4-5 `a---b
+i0-1 s1-3 i3-4 `x->y
+i0-1 s1-3 s3-5 i5-6 `x--->y
+i0-1 s1-3 s3-4 i4-5 `a:::b
+i0-1 s1-3 s3-4 i4-5 `a>==b
+i0-1 s1-2 s2-4 i4-5 `a<<=b
+i0-1 s1-3 s3-4 i4-5 `a&&&b
+i0-1 s1-3 s3-4 i4-5 `a!==b
+i0-1 s1-2 i2-3 `a/b
+i0-1 s1-2 s3-4 i4-5 `a/ /b
+n0-1 s1-2 n2-3 `1.5
+n0-1 s1-2 n2-3 `1-1
+";
+
+/// Numbers.
+const NUMBERS: &str = "\
+n0-4 n5-9 n10-13 `0x1L 0XfF 0x0
+n0-19 n20-38 `9223372036854775807 0x7fffffffffffffff
+n0-19 `0x00000000000000001
+literal 0`9223372036854775808
+literal 1` 0x8000000000000000
+literal 0`99999999999999999999999
+literal 0`08
+literal 0`00
+literal 0`0x
+literal 0`0xL
+literal 0`0xg
+literal 0`1LL
+literal 0`1u
+literal 2`a 1e5
+";
+
+/// Comments.
+const COMMENTS: &str = "\
+i0-1 i5-6 `a/**/b
+i5-6 i11-12 `/***/a/*~*/b
+i0-1 i14-15 `a//b */ \" ' $~c
+i0-1 `a//
+unclosed 2`a /*/
+i8-9 `/* // */a
+";
+
+/// Quotes.
+const QUOTES: &str = "\
+unclosed 2`a 'b~'
+unclosed 1` \"a\\\"
+unclosed 0`\"\\q
+literal 1` \"\\q\"
+literal 0`''
+literal 0`'ab'
+literal 0`'\\x'
+literal 0`\"\r\"
+";
+
+/// Directives.
+const DIRECTIVES: &str = "\
+i23-24 `#include <stdio.h> ' $~a
+`\t # \tinclude~#includefoo
+directive 3`a~ #define b
+byte 2`a #include
+byte 4`/**/#include
+";
+
+/// Other bytes.
+const OTHERS: &str = "\
+byte 2`a @
+byte 0`$inn $in
+byte 0`$
+byte 0`$$in
+byte 1`a|b
+byte 1`a\\
+byte 1`\r#include
+byte 0`@ \"
+";
+
+/// The text of a row.
+fn text_of(alloc: Global, text: &str) -> Result<Vec<u8>, AllocError> {
+    let mut bytes = Vec::new(alloc);
+    for byte in text.as_bytes() {
+        bytes.push(if *byte == b'~' { b'\n' } else { *byte })?;
+    }
+    Ok(bytes)
+}
+
+/// The first row of a table that is read otherwise, with what is told of it.
+fn differing(alloc: Global, table: &str) -> Result<String, AllocError> {
+    for row in table.lines() {
+        let (wanted, text) = row.split_once('`').unwrap_or((row, ""));
+        let bytes = text_of(alloc, text)?;
+        let found = shown(alloc, bytes.as_slice())?;
+        if found.as_str() != wanted {
+            return format!(in alloc; "{found}, and not {row}");
+        }
+    }
+    Ok(String::new(alloc))
+}
 
 #[test]
 fn token_lists(rt: HostRuntime) -> Result<(), Fail> {
-    for (bytes, expected) in TEXTS {
-        assert_eq!(rt; shown(rt.alloc(), bytes)?.as_str(), expected);
+    for table in [
+        KINDS, ESCAPES, NEIGHBOURS, NUMBERS, COMMENTS, QUOTES, DIRECTIVES, OTHERS,
+    ] {
+        assert_eq!(rt; differing(rt.alloc(), table)?.as_str(), "");
     }
-    for (bytes, expected) in MORE_TEXTS {
-        assert_eq!(rt; shown(rt.alloc(), bytes)?.as_str(), expected);
-    }
+    // Bytes that no text has.
+    let found = shown(rt.alloc(), b"\"\" \"a\tb'\" \"\x80\xff\"")?;
+    assert_eq!(rt; found.as_str(), "t0-2 t3-9 t10-14 ");
+    assert_eq!(rt; shown(rt.alloc(), b"\x80")?.as_str(), "byte 0");
     Ok(())
+}
+
+/// The lines of the tokens, with a space behind each.
+fn lines_of(alloc: Global, bytes: &[u8]) -> Result<String, Fail> {
+    if bytes.len() > 1000 {
+        return Err(Fail::from("too long"));
+    }
+    let tokens = lex(alloc, bytes)?;
+    let mut text = String::new(alloc);
+    for token in &tokens {
+        let line = token.line;
+        write!(text, "{line} ")?;
+    }
+    Ok(text)
 }
 
 #[test]
 fn lines(rt: HostRuntime) -> Result<(), Fail> {
-    let tokens = lex(rt.alloc(), b"a /* \n \n */ b\n#include c\n// d\ne \"\"")?;
-    let expected = [1, 3, 6, 6];
-    assert_eq!(rt; tokens.len(), expected.len());
-    for (token, line) in tokens.iter().zip(expected) {
-        assert_eq!(rt; token.line, line);
-    }
+    let found = lines_of(rt.alloc(), b"a /* \n \n */ b\n#include c\n// d\ne \"\"")?;
+    assert_eq!(rt; found.as_str(), "1 3 6 6 ");
     Ok(())
+}
+
+/// Spellings behind their values: of a number, with `L` where it is a `long`; of a character constant, in quotes.
+const VALUES: &str = "\
+0`0
+2147483647`2147483647
+2147483648L`2147483648
+7L`7L
+0L`0l
+31`0x1F
+11259375`0Xabcdef
+4294967295L`0xffffffffL
+9223372036854775807L`9223372036854775807
+'97'`'a'
+'10'`'\\n'
+'9'`'\\t'
+'13'`'\\r'
+'0'`'\\0'
+'39'`'\\''
+none`x1
+none`'
+";
+
+fn value(alloc: Global, spelling: &[u8]) -> Result<String, AllocError> {
+    match (number_of(spelling), character_of(spelling)) {
+        (Some(number), None) => {
+            let value = number.value;
+            let behind = if number.long { "L" } else { "" };
+            format!(in alloc; "{value}{behind}")
+        }
+        (None, Some(byte)) => format!(in alloc; "'{byte}'"),
+        (None, None) => String::from_str(alloc, "none"),
+        (Some(_), Some(_)) => String::from_str(alloc, "both"),
+    }
+}
+
+/// The first spelling that has another value, with that.
+fn differing_value(alloc: Global, table: &str) -> Result<String, AllocError> {
+    for row in table.lines() {
+        let (wanted, spelling) = row.split_once('`').unwrap_or((row, ""));
+        let found = value(alloc, spelling.as_bytes())?;
+        if found.as_str() != wanted {
+            return format!(in alloc; "{found}, and not {row}");
+        }
+    }
+    Ok(String::new(alloc))
 }
 
 #[test]
 fn values(rt: HostRuntime) -> Result<(), Fail> {
-    let numbers: [(&[u8], u64, bool); 9] = [
-        (b"0", 0, false),
-        (b"2147483647", 2147483647, false),
-        (b"2147483648", 2147483648, true),
-        (b"7L", 7, true),
-        (b"0l", 0, true),
-        (b"0x1F", 31, false),
-        (b"0Xabcdef", 11259375, false),
-        (b"0xffffffffL", 4294967295, true),
-        (b"9223372036854775807", 9223372036854775807, true),
-    ];
-    for (spelling, value, long) in numbers {
-        let number = number_of(spelling).ok_or("no number")?;
-        assert_eq!(rt; number.value, value);
-        assert_eq!(rt; number.long, long);
-    }
-    let characters: [(&[u8], u8); 6] = [
-        (b"'a'", 97),
-        (b"'\\n'", 10),
-        (b"'\\t'", 9),
-        (b"'\\r'", 13),
-        (b"'\\0'", 0),
-        (b"'\\''", 39),
-    ];
-    for (spelling, byte) in characters {
-        assert_eq!(rt; character_of(spelling), Some(byte));
-    }
-    assert_eq!(rt; number_of(b"x1"), None);
-    assert_eq!(rt; character_of(b"'"), None);
+    assert_eq!(rt; differing_value(rt.alloc(), VALUES)?.as_str(), "");
     let text = string_of(rt.alloc(), b"\"a\\0\\\\\\\"\xff\"")?.ok_or("no string")?;
-    assert_eq!(rt; text.as_slice(), [97, 0, 92, 34, 255].as_slice());
+    let same = text.as_slice() == [97, 0, 92, 34, 255].as_slice();
+    assert!(rt; same);
     assert!(rt; string_of(rt.alloc(), b"\"")?.is_none());
     Ok(())
 }
