@@ -12,8 +12,8 @@ use Rattle.kt_mem.specs.declared.memory.Value.TheVariants.{Num, Null, Ptr, Free,
 use Rattle.kt_mem.specs.declared.steps.Trap.{Trap}
 use Rattle.kt_mem.specs.declared.steps.Trap.TheVariants as trap
 use Rattle.kt_mem.specs.Values.{ty_eq, defined}
-use Rattle.kt_mem.specs.Memory.{Memory, Object, Cell, cell_value, value_at, and_then, unless_literal, store, locked, unlocked, initialised, held_by_other, alloc_fault, alloc, released, release}
-use Rattle.kt_mem.specs.Causes.{HasCell, LoadsAnswer, StoresAnswer, AllocsAnswer, ReleasesAnswer, IsHeldBy, LockHolds, UnlockFrees, InitFrees}
+use Rattle.kt_mem.specs.Memory.{Memory, Object, Cell, cell_value, value_at, written, and_then, unless_literal, store, locked, unlocked, initialised, held_by_other, alloc_fault, alloc, released, release}
+use Rattle.kt_mem.specs.Causes.{HasCell, IsNoMutex, LoadsAnswer, StoresAnswer, AllocsAnswer, ReleasesAnswer, LocksAnswer, UnlocksAnswer, InitsAnswer, IsHeldBy, LockHolds, UnlockFrees, InitFrees}
 use Rattle.kt_mem.proofs.Names.{ty_eq-refl, ty_eq-true}
 use Rattle.kt_mem.proofs.Places.{value_at-with_same}
 use Rattle.kt_mem.proofs.Changes.{written_ok, and_then_ok}
@@ -189,3 +189,67 @@ init_frees m after p h =
   where
     same_ok : {x y : Value} → ◌≡◌ {A = Result Value Trap} (Ok x) (Ok y) → x ≡ y
     same_ok e = cc
+
+-- what each act makes of a value that is no mutex
+locked_none : (thread : ℕ) (v : Value) → IsNoMutex v → locked thread v ≡ Err trap.Uninit
+locked_none thread Free lacks = absurd (lacks.free refl)
+locked_none thread (Held holder) lacks = absurd (lacks.held holder refl)
+locked_none thread (Num z) lacks = refl
+locked_none thread Null lacks = refl
+locked_none thread (Ptr n k) lacks = refl
+locked_none thread Undef lacks = refl
+
+unlocked_none : (thread : ℕ) (v : Value) → IsNoMutex v → unlocked thread v ≡ Err trap.Uninit
+unlocked_none thread Free lacks = absurd (lacks.free refl)
+unlocked_none thread (Held holder) lacks = absurd (lacks.held holder refl)
+unlocked_none thread (Num z) lacks = refl
+unlocked_none thread Null lacks = refl
+unlocked_none thread (Ptr n k) lacks = refl
+unlocked_none thread Undef lacks = refl
+
+initialised_none : (v : Value) → ((holder : ℕ) → v ≢ Held holder) → initialised v ≡ Ok Free
+initialised_none (Held holder) ne = absurd (ne holder refl)
+initialised_none Free ne = refl
+initialised_none (Num z) ne = refl
+initialised_none Null ne = refl
+initialised_none (Ptr n k) ne = refl
+initialised_none Undef ne = refl
+
+-- what the cell at a pointer holds
+cell_there : (m : Memory) (n : Name) (k : ℕ) (o : Object) (v : Value) → m.at n ≡ Some o → HasCell o k ty.Mutex v → value_at m (Ptr n k) ty.Mutex ≡ Ok v
+cell_there m n k o v e has = rw (e, has)
+
+pub locks_answer : LocksAnswer
+locks_answer m n k thread =
+    record {
+      null = refl;
+      dead = λ e. rw e;
+      bounds = λ o e absent. rw (e, no_cell (slice_get o.cells k) ty.Mutex absent);
+      uninit = λ o v e has lacks. rw (e, has, locked_none thread v lacks);
+      mutex = λ o e has. rw (e, has, eqb-refl thread);
+      taken = λ o e has. ap (λ r. written m (Ptr n k) ty.Mutex (and_then r (locked thread))) (cell_there m n k o Free e has);
+      waits = λ o other e has ne. rw (e, has, eqb-differs thread other (λ same. ne (sym same)));
+      stays = λ o other e has ne. ap (λ r. written m (Ptr n k) ty.Mutex (and_then r (locked thread))) (cell_there m n k o (Held other) e has) ∙ ap (λ b. written m (Ptr n k) ty.Mutex (cond b (Err trap.Mutex) (Ok (Held other)))) (eqb-differs thread other (λ same. ne (sym same)));
+    }
+
+pub unlocks_answer : UnlocksAnswer
+unlocks_answer m n k thread =
+    record {
+      null = refl;
+      dead = λ e. rw e;
+      bounds = λ o e absent. rw (e, no_cell (slice_get o.cells k) ty.Mutex absent);
+      uninit = λ o v e has lacks. rw (e, has, unlocked_none thread v lacks);
+      free = λ o e has. rw (e, has);
+      others = λ o other e has ne. rw (e, has, eqb-differs thread other (λ same. ne (sym same)));
+      done = λ o e has. ap (λ r. written m (Ptr n k) ty.Mutex (and_then r (unlocked thread))) (cell_there m n k o (Held thread) e has) ∙ ap (λ b. written m (Ptr n k) ty.Mutex (cond b (Ok Free) (Err trap.Mutex))) (eqb-refl thread);
+    }
+
+pub inits_answer : InitsAnswer
+inits_answer m n k =
+    record {
+      null = refl;
+      dead = λ e. rw e;
+      bounds = λ o e absent. rw (e, no_cell (slice_get o.cells k) ty.Mutex absent);
+      mutex = λ o holder e has. rw (e, has);
+      done = λ o v e has ne. ap (λ r. written m (Ptr n k) ty.Mutex (and_then r initialised)) (cell_there m n k o v e has) ∙ ap (written m (Ptr n k) ty.Mutex) (initialised_none v ne);
+    }

@@ -3,5 +3,6 @@ pub mod Names
 pub mod Places
 pub mod Changes
 pub mod MemoryLaws
+pub mod ShapeLaws
 pub mod CauseLaws
 pub mod TypedAnswers

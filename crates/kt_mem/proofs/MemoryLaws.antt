@@ -98,7 +98,7 @@ stays_dead m after a (Freed b o was e) below gone =
     rw e (below, put-cases (λ x. x ≡ None) m.at (Heap b) (Heap a) None (λ _. refl) (λ _. gone))
 
 -- one act, also one that traps, keeps what every change keeps
-each_act : (P : Memory → Type 0) (m : Memory) (e : Effect) → ((after : Memory) → Change m after → P after) → P (result_unwrap_or (effect_on m e) m)
+pub each_act : (P : Memory → Type 0) (m : Memory) (e : Effect) → ((after : Memory) → Change m after → P after) → P (result_unwrap_or (effect_on m e) m)
 each_act P m e kept = by_answer (effect_on m e) refl
   where
     by_answer : (r : Result Memory Trap) → effect_on m e ≡ r → P (result_unwrap_or r m)
@@ -156,7 +156,7 @@ cells_below-freed at n a o h was =
     omega (arith, rest, ap cell_count was)
 
 -- a live object has a number below the next one
-live_below : (m : Memory) (a : ℕ) (o : Object) → IsCounted m → m.at (Heap a) ≡ Some o → a < m.next
+pub live_below : (m : Memory) (a : ℕ) (o : Object) → IsCounted m → m.at (Heap a) ≡ Some o → a < m.next
 live_below m a o i was =
     elim (leb_tells m.next a) [ inl p ↦ absurd (gone (i.numbered a p.1) was) | inr p ↦ p.1 ]
   where
@@ -226,7 +226,7 @@ types-set (c ∷ cs) zero t old new h = ap (λ u. u ∷ map (λ c. c.ty) cs) (ty
     type_of false e h = cc
 types-set (c ∷ cs) (suc k) t old new h = ap (λ us. c.ty ∷ us) (types-set cs k t old new h)
 
-same_shape-with : (o : Object) (k : ℕ) (t : Ty) (old new : Value) → value_in (Some o) k t ≡ Ok old → SameShape o (object_with k (record { ty = t; value = new }) o)
+pub same_shape-with : (o : Object) (k : ℕ) (t : Ty) (old new : Value) → value_in (Some o) k t ≡ Ok old → SameShape o (object_with k (record { ty = t; value = new }) o)
 same_shape-with o k t old new h =
     record { number = refl; ty = refl; count = refl; types = types-set o.cells k t old new h }
 

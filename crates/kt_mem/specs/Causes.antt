@@ -1,6 +1,6 @@
 -- Every answer of an act on memory, by its cause: what holds of memory where the answer comes. The causes of one act
 -- leave nothing out, so each answer comes exactly there.
-use Rattle.std.specs.Prelude.{◌≡◌, ◌≢◌, ℕ, ℤ, pos, ◌<ℤ◌, ◌+◌, ◌*◌, ◌<◌, ◌≤◌, Bool, false, IsTrue, IsOk, List, length, None, Some, Ok, Err, slice_get}
+use Rattle.std.specs.Prelude.{◌≡◌, ◌≢◌, ℕ, ℤ, pos, ◌<ℤ◌, ◌+◌, ◌*◌, ◌<◌, ◌≤◌, Bool, true, false, IsTrue, IsOk, List, length, None, Some, Ok, Err, slice_get}
 use Rattle.kt_types.specs.declared.kinds.Ty.{Ty}
 use Rattle.kt_types.specs.declared.kinds.Ty.TheVariants as ty
 use Rattle.kt_mem.specs.declared.memory.Name.{Name}
@@ -8,7 +8,7 @@ use Rattle.kt_mem.specs.declared.memory.Name.TheVariants.{Lit, Heap}
 use Rattle.kt_mem.specs.declared.memory.Value.{Value}
 use Rattle.kt_mem.specs.declared.memory.Value.TheVariants.{Null, Ptr, Free, Held, Undef}
 use Rattle.kt_mem.specs.declared.steps.Trap.TheVariants as trap
-use Rattle.kt_mem.specs.Memory.{Memory, Object, value_at, load, store, lock, unlock, init_mutex, waits, alloc, release}
+use Rattle.kt_mem.specs.Memory.{Memory, Object, value_at, with_value, load, store, lock, unlock, init_mutex, waits, alloc, release}
 
 -- the object has a cell of this type there, with this value
 abbrev pub HasCell : Object → ℕ → Ty → Value → Type 0
@@ -44,6 +44,40 @@ pub record ReleaseAnswers (m : Memory) (n : Name) (k : ℕ) : Type 0 where
   pub inside : (o : Object) → m.at n ≡ Some o → k ≢ 0 → release m (Ptr n k) ≡ Err trap.Free
   pub elsewhere : (o : Object) → m.at n ≡ Some o → ((a : ℕ) → n ≢ Heap a) → release m (Ptr n k) ≡ Err trap.Free
   pub done : (o : Object) (a : ℕ) → m.at n ≡ Some o → n ≡ Heap a → IsOk (release m (Ptr n 0))
+
+-- a value that is neither a free nor a held mutex
+pub record IsNoMutex (v : Value) : Type 0 where
+  pub free : v ≢ Free
+  pub held : (holder : ℕ) → v ≢ Held holder
+
+-- a lock by a thread, by what is at the pointer: it takes a free mutex, and waits for one that another thread holds
+pub record LockAnswers (m : Memory) (n : Name) (k thread : ℕ) : Type 0 where
+  pub null : lock m thread Null ≡ Err trap.Null
+  pub dead : m.at n ≡ None → lock m thread (Ptr n k) ≡ Err trap.Dead
+  pub bounds : (o : Object) → m.at n ≡ Some o → ((v : Value) → HasCell o k ty.Mutex v → ⊥) → lock m thread (Ptr n k) ≡ Err trap.Bounds
+  pub uninit : (o : Object) (v : Value) → m.at n ≡ Some o → HasCell o k ty.Mutex v → IsNoMutex v → lock m thread (Ptr n k) ≡ Err trap.Uninit
+  pub mutex : (o : Object) → m.at n ≡ Some o → HasCell o k ty.Mutex (Held thread) → lock m thread (Ptr n k) ≡ Err trap.Mutex
+  pub taken : (o : Object) → m.at n ≡ Some o → HasCell o k ty.Mutex Free → lock m thread (Ptr n k) ≡ Ok (with_value m (Ptr n k) ty.Mutex (Held thread))
+  pub waits : (o : Object) (other : ℕ) → m.at n ≡ Some o → HasCell o k ty.Mutex (Held other) → other ≢ thread → waits m thread (Ptr n k) ≡ true
+  pub stays : (o : Object) (other : ℕ) → m.at n ≡ Some o → HasCell o k ty.Mutex (Held other) → other ≢ thread → lock m thread (Ptr n k) ≡ Ok (with_value m (Ptr n k) ty.Mutex (Held other))
+
+-- an unlock by a thread, by what is at the pointer
+pub record UnlockAnswers (m : Memory) (n : Name) (k thread : ℕ) : Type 0 where
+  pub null : unlock m thread Null ≡ Err trap.Null
+  pub dead : m.at n ≡ None → unlock m thread (Ptr n k) ≡ Err trap.Dead
+  pub bounds : (o : Object) → m.at n ≡ Some o → ((v : Value) → HasCell o k ty.Mutex v → ⊥) → unlock m thread (Ptr n k) ≡ Err trap.Bounds
+  pub uninit : (o : Object) (v : Value) → m.at n ≡ Some o → HasCell o k ty.Mutex v → IsNoMutex v → unlock m thread (Ptr n k) ≡ Err trap.Uninit
+  pub free : (o : Object) → m.at n ≡ Some o → HasCell o k ty.Mutex Free → unlock m thread (Ptr n k) ≡ Err trap.Mutex
+  pub others : (o : Object) (other : ℕ) → m.at n ≡ Some o → HasCell o k ty.Mutex (Held other) → other ≢ thread → unlock m thread (Ptr n k) ≡ Err trap.Mutex
+  pub done : (o : Object) → m.at n ≡ Some o → HasCell o k ty.Mutex (Held thread) → unlock m thread (Ptr n k) ≡ Ok (with_value m (Ptr n k) ty.Mutex Free)
+
+-- an init, by what is at the pointer: only a held mutex is not made free
+pub record InitAnswers (m : Memory) (n : Name) (k : ℕ) : Type 0 where
+  pub null : init_mutex m Null ≡ Err trap.Null
+  pub dead : m.at n ≡ None → init_mutex m (Ptr n k) ≡ Err trap.Dead
+  pub bounds : (o : Object) → m.at n ≡ Some o → ((v : Value) → HasCell o k ty.Mutex v → ⊥) → init_mutex m (Ptr n k) ≡ Err trap.Bounds
+  pub mutex : (o : Object) (holder : ℕ) → m.at n ≡ Some o → HasCell o k ty.Mutex (Held holder) → init_mutex m (Ptr n k) ≡ Err trap.Mutex
+  pub done : (o : Object) (v : Value) → m.at n ≡ Some o → HasCell o k ty.Mutex v → ((holder : ℕ) → v ≢ Held holder) → init_mutex m (Ptr n k) ≡ Ok (with_value m (Ptr n k) ty.Mutex Free)
 
 -- a mutex that a thread locked: it holds it, may not lock it again, and each other thread waits
 pub record IsHeldBy (m : Memory) (p : Value) (thread : ℕ) : Type 0 where
@@ -81,3 +115,12 @@ AllocsAnswer = (m : Memory) (place : ℕ) (types : List Ty) (zeros : Bool) → A
 
 abbrev pub ReleasesAnswer : Type 0
 ReleasesAnswer = (m : Memory) (n : Name) (k : ℕ) → ReleaseAnswers m n k
+
+abbrev pub LocksAnswer : Type 0
+LocksAnswer = (m : Memory) (n : Name) (k thread : ℕ) → LockAnswers m n k thread
+
+abbrev pub UnlocksAnswer : Type 0
+UnlocksAnswer = (m : Memory) (n : Name) (k thread : ℕ) → UnlockAnswers m n k thread
+
+abbrev pub InitsAnswer : Type 0
+InitsAnswer = (m : Memory) (n : Name) (k : ℕ) → InitAnswers m n k

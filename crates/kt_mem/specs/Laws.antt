@@ -1,6 +1,8 @@
 -- Laws of arithmetic and of memory, in words that its definitions don't use.
-use Rattle.std.specs.Prelude.{◌≡◌, ◌≢◌, ℕ, zero, suc, ℤ, pos, ◌+ℤ◌, ◌*ℤ◌, ◌+◌, ◌<◌, ◌≤◌, Bool, IsTrue, List, [], ◌∷◌, map, length, Option, None, Some, Result, Ok, Err}
+use Rattle.std.specs.Prelude.{◌≡◌, ◌≢◌, ℕ, zero, suc, ℤ, pos, ◌+ℤ◌, ◌*ℤ◌, ◌+◌, ◌<◌, ◌≤◌, Bool, IsTrue, List, [], ◌∷◌, map, length, All, Option, None, Some, Result, Ok, Err}
+use Rattle.std.specs.Option.{option_map}
 use Rattle.std.specs.Result.{result_unwrap_or}
+use Rattle.kt_types.specs.Layout.{repeated}
 use Rattle.kt_types.specs.declared.kinds.Ty.{Ty}
 use Rattle.kt_mem.specs.declared.memory.Name.{Name}
 use Rattle.kt_mem.specs.declared.memory.Name.TheVariants.{Heap}
@@ -99,6 +101,12 @@ AllocTakesNext =
     (m after : Memory) (place count : ℕ) (types : List Ty) (zeros : Bool) → alloc m place types (pos count) zeros ≡ Ok after
     → (after.next ≡ m.next + 1) × (after.at (Heap m.next) ≡ Some (fresh_object m.next place types count zeros))
 
+-- and changes no other object
+abbrev pub AllocKeepsOthers : Type 0
+AllocKeepsOthers =
+    (m after : Memory) (place : ℕ) (types : List Ty) (count : ℤ) (zeros : Bool) (n : Name) → alloc m place types count zeros ≡ Ok after
+    → n ≢ Heap m.next → after.at n ≡ m.at n
+
 -- a heap number never comes again: one that was given out, and whose object is gone, has none after any acts
 abbrev pub NumbersNeverReturn : Type 0
 NumbersNeverReturn =
@@ -145,3 +153,30 @@ abbrev pub ShapesStay : Type 0
 ShapesStay =
     (m : Memory) (acts : List Effect) (n : Name) (o p : Object) → IsCounted m → m.at n ≡ Some o → (memory_after m acts).at n ≡ Some p
     → SameShape o p
+
+-- ---- shapes
+
+-- each object has the cells of its element type as often as its count says: `layout` has the cell types of each type's place
+abbrev pub IsShaped : (ℕ → Option (List Ty)) → Memory → Type 0
+IsShaped layout m = (n : Name) (o : Object) → m.at n ≡ Some o → option_map (repeated o.count) (layout o.ty) ≡ Some (map (λ c. c.ty) o.cells)
+
+-- an allocation is of elements with the cells of their type
+abbrev pub FollowsLayout : (ℕ → Option (List Ty)) → Effect → Type 0
+FollowsLayout layout (Allocates place types count zeros) = layout place ≡ Some types
+FollowsLayout layout _ = Unit {0}
+
+-- no act changes that objects are shaped so
+abbrev pub StaysShaped : Type 0
+StaysShaped =
+    (layout : ℕ → Option (List Ty)) (m : Memory) (acts : List Effect) → All (FollowsLayout layout) acts → IsShaped layout m → IsShaped layout (memory_after m acts)
+
+-- each heap object carries its heap number
+abbrev pub IsNumbered : Memory → Type 0
+IsNumbered m = (a : ℕ) (o : Object) → m.at (Heap a) ≡ Some o → o.number ≡ a
+
+abbrev pub StaysNumbered : Type 0
+StaysNumbered = (m : Memory) (acts : List Effect) → IsNumbered m → IsNumbered (memory_after m acts)
+
+-- where live cells are counted, a live heap object's number is below the next one
+abbrev pub NumbersAreBelow : Type 0
+NumbersAreBelow = (m : Memory) (a : ℕ) (o : Object) → IsCounted m → m.at (Heap a) ≡ Some o → a < m.next

@@ -1,7 +1,7 @@
 //! Laws of arithmetic and of memory: calls that do nothing, and ensure what holds of the definitions
 //! that the other calls cite.
-ghost use Rattle.kt_mem.specs.Causes.{LoadsAnswer, StoresAnswer, AllocsAnswer, ReleasesAnswer, LockHolds, UnlockFrees, InitFrees};
-ghost use Rattle.kt_mem.specs.Laws.{DividesExactly, ResultsHaveType, LoadsWhatWasStored, StoreKeepsOthers, ReleaseEnds, ReleaseKeepsOthers, AllocTakesNext, NumbersNeverReturn, StartsCounted, StaysCounted, StaysSmall, ShapesStay};
+ghost use Rattle.kt_mem.specs.Causes.{LoadsAnswer, StoresAnswer, AllocsAnswer, ReleasesAnswer, LocksAnswer, UnlocksAnswer, InitsAnswer, LockHolds, UnlockFrees, InitFrees};
+ghost use Rattle.kt_mem.specs.Laws.{DividesExactly, ResultsHaveType, LoadsWhatWasStored, StoreKeepsOthers, ReleaseEnds, ReleaseKeepsOthers, AllocTakesNext, AllocKeepsOthers, NumbersNeverReturn, StartsCounted, StaysCounted, StaysSmall, ShapesStay, StaysShaped, StaysNumbered, NumbersAreBelow};
 
 /// `(a / b) * b + a % b` is `a` (ISO/IEC 9899:2011, 6.5.5).
 pub fn division_law()
@@ -25,10 +25,14 @@ pub fn release_law()
     ensures others { ReleaseKeepsOthers }
 {}
 
-/// An allocation takes the next heap number, and a number whose object is gone never comes again.
+/// An allocation takes the next heap number and changes no other object, and a number whose object is gone never comes
+/// again. A live object carries its heap number, which is below the next one.
 pub fn heap_number_law()
     ensures taken { AllocTakesNext }
+    ensures others { AllocKeepsOthers }
     ensures never_again { NumbersNeverReturn }
+    ensures own { StaysNumbered }
+    ensures below { NumbersAreBelow }
 {}
 
 /// The count of live cells is the sum of the heap objects' cells, and never passes 4,194,304.
@@ -38,17 +42,22 @@ pub fn live_cells_law()
     ensures limit { StaysSmall }
 {}
 
-/// An object keeps its number, its element type, its count and the types of its cells while it lives.
+/// An object has the cells of its element type as often as its count says, and keeps its number, its element type, its
+/// count and the types of its cells while it lives.
 pub fn shape_law()
-    ensures { ShapesStay }
+    ensures stays { ShapesStay }
+    ensures shaped { StaysShaped }
 {}
 
-/// Each answer of a load, a store, an allocation and a release, by its cause.
+/// Each answer of a load, a store, an allocation, a release, a lock, an unlock and an init, by its cause.
 pub fn answers_law()
     ensures load { LoadsAnswer }
     ensures store { StoresAnswer }
     ensures alloc { AllocsAnswer }
     ensures release { ReleasesAnswer }
+    ensures lock { LocksAnswer }
+    ensures unlock { UnlocksAnswer }
+    ensures init { InitsAnswer }
 {}
 
 /// A lock is held by one thread, which alone lets it go; a mutex that is held is not made free.

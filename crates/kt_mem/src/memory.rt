@@ -1,5 +1,5 @@
 //! What memory holds: names, values and cells.
-ghost use Rattle.std.specs.Prelude.{◌≡◌};
+ghost use Rattle.std.specs.Prelude.{◌≡◌, ◌<◌, length, slice_set};
 ghost use Rattle.kt_mem.specs.Stored.{value_of, stored_of};
 
 use kt_types::Ty;
@@ -224,6 +224,14 @@ impl Cells {
         ensures { result.now ≡ self.now }
     {
         self.items.as_slice()
+    }
+
+    /// Writes the cell at a place.
+    pub fn set(&mut self, place: usize, cell: Cell)
+        requires { place < length self.old }
+        ensures { self.new ≡ slice_set self.old place cell }
+    {
+        self.items[place] = cell;
     }
 }
 

@@ -309,9 +309,15 @@ fn value_lists(rt: HostRuntime) -> Result<(), Fail> {
 #[test]
 fn cell_lists(rt: HostRuntime) -> Result<(), Fail> {
     let cell = Cell::new(Ty::Char, Value::Undef);
-    let cells = Cells::from_vec([cell].to_vec(rt.alloc())?);
-    let copy = cells.clone()?;
-    assert_eq!(rt; (cells.as_slice().len(), copy.into_vec().len()), (1, 1));
+    let mut cells = Cells::from_vec([cell].to_vec(rt.alloc())?);
+    if cells.as_slice().len() == 1 {
+        cells.set(0, Cell::new(Ty::Char, num(7)));
+    }
+    let copy = cells.clone()?.into_vec();
+    assert_eq!(rt;
+        (cells.as_slice().len(), copy.first().map(|cell| cell.value())),
+        (1, Some(num(7)))
+    );
     Ok(())
 }
 
