@@ -1,7 +1,5 @@
 //! The input: it is read whole behind the files, and before any of them is judged.
 
-ghost use Rattle.std.specs.Prelude.{◌<◌};
-
 use crate::calls::{
     APPEND, FIRST, LONG, STEADY, blanks, call_on_two, call_with, one, run_with, source,
 };
@@ -15,16 +13,14 @@ const TOO_LONG: &str = "TooLong(Input) |  | refuse long input/";
 
 const RUN: &str = "Main(0) | A | kit 1/turn 0 2/end main 0/";
 
-// An input of so many bytes, which come in pieces; the given read of it fails (0: none).
-fn input_of(alloc: Global, count: usize, piece: u32, fail_on: u64) -> Result<MemSource, AllocError>
-    requires { 0 < piece }
-{
+// An input of so many bytes.
+fn input_of(alloc: Global, count: usize) -> Result<MemSource, AllocError> {
     let mut rest = Vec::new(alloc);
     rest.resize(count, b'x')?;
     Ok(MemSource {
         rest,
-        piece,
-        fail_on: [fail_on].to_vec(alloc)?,
+        piece: 65_536,
+        fail_on: Vec::new(alloc),
         calls: 0,
         faults: 0,
     })
@@ -37,7 +33,9 @@ fn broken(alloc: Global) -> Result<MemSource, AllocError> {
 
 // The answer where the given read of 2,500 bytes fails.
 fn failing_read(alloc: Global, fail_on: u64) -> Result<String, AllocError> {
-    let mut input = input_of(alloc, 2500, 1000, fail_on)?;
+    let mut bytes = Vec::new(alloc);
+    bytes.resize(2500, b'x')?;
+    let mut input = source(alloc, bytes.as_slice(), fail_on)?;
     run_with(alloc, FIRST, &mut input)
 }
 
@@ -54,7 +52,7 @@ fn each_read_fails_in_turn(rt: HostRuntime) -> Result<(), Fail> {
 
 // The answer to a text on an input of so many bytes.
 fn long_input(alloc: Global, text: &str, count: usize) -> Result<String, AllocError> {
-    let mut input = input_of(alloc, count, 65_536, 0)?;
+    let mut input = input_of(alloc, count)?;
     run_with(alloc, text, &mut input)
 }
 
