@@ -315,7 +315,10 @@ fn cell_lists(rt: HostRuntime) -> Result<(), Fail> {
     }
     let copy = cells.clone()?.into_vec();
     assert_eq!(rt;
-        (cells.as_slice().len(), copy.first().map(|cell| cell.value())),
+        (
+            cells.as_slice().len(),
+            copy.first().map(|cell| cell.value())
+        ),
         (1, Some(num(7)))
     );
     Ok(())
