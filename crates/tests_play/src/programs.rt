@@ -247,7 +247,10 @@ fn differing_run(alloc: Global, table: &str) -> Result<String, AllocError> {
         let wanted = format!(in alloc; "{output} | kit 1/turn 0 {turns}/end {end}/")?;
         let mut input = source(alloc, input.as_bytes(), 0)?;
         let found = run_with(alloc, program, &mut input)?;
-        let (_, shown) = found.as_str().split_once(" | ").unwrap_or(("", ""));
+        let shown = match found.as_str().split_once(" | ") {
+            Some((_, shown)) => shown,
+            None => "",
+        };
         if shown != wanted.as_str() {
             return format!(in alloc; "{shown}, and not {row}");
         }
