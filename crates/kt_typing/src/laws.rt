@@ -1,0 +1,28 @@
+//! Laws of the definitions, each the contract of a function that does nothing.
+
+ghost use Rattle.std.specs.Prelude.{◌≡◌, ◌↔◌, Some, None};
+ghost use Rattle.std.specs.List.{AllByRecursion};
+ghost use Rattle.kt_typing.specs.Answers.{IsRefused, IsAccepted};
+ghost use Rattle.kt_typing.specs.Faults.{IsFirst};
+ghost use Rattle.kt_typing.specs.First.{first_fault};
+ghost use Rattle.kt_typing.specs.Forms.{Form, typed, IsFault};
+ghost use Rattle.kt_typing.specs.Operands.{Operand};
+ghost use Rattle.kt_typing.specs.Rows.{c_file, rule_code, refused, accepted, refused_in_rules, accepted_in_rules};
+ghost use Rattle.kt_typing.specs.declared.fault.Fault.{Fault};
+
+/// What has a type has no fault, and what has no type has a first one: at the least place, and there of the earliest kind.
+/// There is one first fault at most, and it is what is found part by part.
+pub fn typing_law()
+    ensures faultless { (e : Form) (x : Operand) (f : Fault) → typed e ≡ Some x → IsFault e f → ⊥ }
+    ensures faulty { (e : Form) → typed e ≡ None → (f : Fault) × IsFirst (IsFault e) f }
+    ensures one_first { (e : Form) (f g : Fault) → IsFirst (IsFault e) f → IsFirst (IsFault e) g → f ≡ g }
+    ensures found { (e : Form) (f : Fault) → (first_fault e ≡ Some f) ↔ IsFirst (IsFault e) f }
+{}
+
+/// Worked rows: of two faulty parts, of operators and calls whose parts are faulty, of parentheses and of null.
+pub fn rows_law()
+    ensures refused { AllByRecursion (IsRefused c_file) refused }
+    ensures accepted { AllByRecursion (IsAccepted c_file) accepted }
+    ensures refused_in_rules { AllByRecursion (IsRefused rule_code) refused_in_rules }
+    ensures accepted_in_rules { AllByRecursion (IsAccepted rule_code) accepted_in_rules }
+{}
