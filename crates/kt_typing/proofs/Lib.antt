@@ -1,3 +1,5 @@
 pub mod Exact
 pub mod Firsts
+pub mod SoundOperands
+pub mod SoundRules
 pub mod WorkedRows

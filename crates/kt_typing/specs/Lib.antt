@@ -8,4 +8,5 @@ pub mod Forms
 pub mod Operands
 pub mod Rows
 pub mod Rules
+pub mod Sound
 pub mod Terms
