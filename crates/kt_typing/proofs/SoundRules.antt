@@ -118,7 +118,7 @@ module _ (s : Scope) where
   given-valued at t e true h x is = let same : valued at t e ≡ x = cc in subst (λ y. HasType s y.ty y.tree) same h
   given-valued at t e false h x is = absurd cc
 
-  indexed-as : (at : ℕ) (what : Standing) (t : ℕ) (e : Expression) → IsSoundAs s what t e → (v : Value) → indexed s (operand at what t e) ≡ Some v → IsOf s v
+  pub indexed-as : (at : ℕ) (what : Standing) (t : ℕ) (e : Expression) → IsSoundAs s what t e → (v : Value) → indexed s (operand at what t e) ≡ Some v → IsOf s v
   indexed-as at standing.Elements t e h v is = some-is (of_type t e) v h is
   indexed-as at standing.Value t e h v is = value-sound s (operand at standing.Value t e) h v is
   indexed-as at standing.Zero t e h v is = value-sound s (operand at standing.Zero t e) h v is
@@ -131,7 +131,7 @@ module _ (s : Scope) where
   indexed-as at standing.Nothing t e h v is = value-sound s (operand at standing.Nothing t e) h v is
   indexed-as at (standing.Entry f) t e h v is = value-sound s (operand at (standing.Entry f) t e) h v is
 
-  whole-as : (what : Standing) (t : ℕ) (e : Expression) → IsSoundAs s what t e → is_whole what ≡ true → HasType s t e
+  pub whole-as : (what : Standing) (t : ℕ) (e : Expression) → IsSoundAs s what t e → is_whole what ≡ true → HasType s t e
   whole-as standing.Whole t e h is = h
   whole-as standing.Value t e h is = absurd cc
   whole-as standing.Zero t e h is = absurd cc
