@@ -1,5 +1,6 @@
 pub mod Exact
 pub mod Firsts
+pub mod SoundCalls
 pub mod SoundChoices
 pub mod SoundForms
 pub mod SoundOperands

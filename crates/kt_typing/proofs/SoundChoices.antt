@@ -12,7 +12,7 @@ use Rattle.kt_typing.specs.Operands.{Operand, Value, operand, valued, of_type, v
 use Rattle.kt_typing.specs.Rules.{given, with_value, with_two, is_null_itself, null_tree, null_value, null_beside, value_beside, choice_type, chosen, null_if, choice}
 use Rattle.kt_typing.specs.Sound.{HasType, IsNullTree, IsSoundAs, IsSound}
 use Rattle.kt_typing.proofs.SoundOperands.{IsOf, Sound, sound-err, sound-ok, sound-given, sound-with, sound-two, scalar-sound}
-use Rattle.kt_typing.proofs.SoundRules.{beside-sound, chosen-kind, left}
+use Rattle.kt_typing.proofs.SoundRules.{beside-sound, chosen-kind}
 
 same-self : (n : ℕ) → (n == n) ≡ true
 same-self n = grind (arith, nat_tests)
@@ -51,9 +51,6 @@ module _ (s : Scope) where
   null-chosen : (t : ℕ) (c a b : Value) → IsOf s c → is_scalar s c.ty ≡ true → IsNullTree s a.tree → IsNullTree s b.tree → IsNullTree s (Chosen c.tree t a.tree b.tree)
   null-chosen t c a b h sc n m d p =
       chosen-kind s d c (of_type d (null_tree d a.tree)) (of_type d (null_tree d b.tree)) h (n d p) (m d p) ∙ rw sc (rw (pointer-choice d p) refl)
-
-  IsNull : Operand → Type 0
-  IsNull x = HasType s x.ty x.tree × IsNullTree s x.tree
 
 module _ (env : Environment) where
   chosen-sound : (at : ℕ) (c a b : Value) → IsOf env.scope c → IsOf env.scope a → IsOf env.scope b → Sound env.scope (chosen env at c a b)

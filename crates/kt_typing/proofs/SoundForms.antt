@@ -12,18 +12,6 @@ use Rattle.kt_typing.proofs.Exact.{ruled-there, fitting-there, both-there}
 use Rattle.kt_typing.proofs.SoundOperands.{Sound, sound-err}
 
 module _ (s : Scope) where
-  abbrev pub AreSound : List Operand → Type 0
-  AreSound xs = AllByRecursion (IsSound s) xs
-
-  abbrev pub FormSound : Form → Type 0
-  FormSound e = (x : Operand) → typed e ≡ Some x → IsSound s x
-
-  abbrev pub PartsSound : Parts → Type 0
-  PartsSound ps = (xs : List Operand) → operands ps ≡ Some xs → AllByRecursion (IsSound s) xs
-
-  abbrev pub RuleSound : (List Operand → Result Operand Fault) → Type 0
-  RuleSound rule = (xs : List Operand) → AllByRecursion (IsSound s) xs → Sound s (rule xs)
-
   pub ruled-sound : (always : Option Fault) (ps : Parts) (rule : List Operand → Result Operand Fault)
       → ((xs : List Operand) → operands ps ≡ Some xs → AllByRecursion (IsSound s) xs) → ((xs : List Operand) → AllByRecursion (IsSound s) xs → Sound s (rule xs))
       → (x : Operand) → typed (Ruled always ps rule) ≡ Some x → IsSound s x
