@@ -6,4 +6,5 @@ pub mod SoundForms
 pub mod SoundOperands
 pub mod SoundOperators
 pub mod SoundRules
+pub mod SoundTerms
 pub mod WorkedRows

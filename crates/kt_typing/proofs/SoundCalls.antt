@@ -1,28 +1,25 @@
 -- Calls are sound.
-use Rattle.std.proofs.Common.{◌≡◌, ℕ, ◌+◌, ◌==◌, ◌&&◌, not, Bool, true, false, List, [], ◌∷◌, length, slice_get, Option, Some, None, Result, Ok, Err, if◌then◌else◌, refl, sym, ap, ◌∙◌, subst}
+use Rattle.std.proofs.Common.{◌≡◌, ℕ, Bool, true, false, List, [], ◌∷◌, slice_get, Option, Some, None, Ok, Err, if◌then◌else◌, refl, sym, ap, ◌∙◌, subst}
 use Rattle.std.specs.List.{AllByRecursion}
 use Rattle.kt_grammar.specs.declared.tree.Name.{Name}
 use Rattle.kt_tree.specs.declared.expr.Request.{Request}
 use Rattle.kt_tree.specs.declared.expr.Request.TheVariants as request
-use Rattle.kt_tree.specs.Tree.{Expression, Requested, Called, NoMore, More}
-use Rattle.kt_tree.specs.Kinds.{Scope, Head, is_request, is_integer, points_to, is_complete, is_array_type, type_at, char_type, int_type}
+use Rattle.kt_tree.specs.Tree.{Requested, NoMore}
+use Rattle.kt_tree.specs.Kinds.{Scope, Head, is_request, is_integer, char_type, int_type}
 use Rattle.kt_tree.specs.Names.{is_point_name}
-use Rattle.kt_tree.specs.Typed.{kind, types, call_kind, Of, if_so}
+use Rattle.kt_tree.specs.Typed.{types, call_kind}
 use Rattle.kt_typing.specs.declared.fault.Fault.{Fault}
 use Rattle.kt_typing.specs.declared.format.Conversion.{Conversion}
 use Rattle.kt_typing.specs.declared.standing.Standing.{Standing}
 use Rattle.kt_typing.specs.declared.standing.Standing.TheVariants as standing
-use Rattle.kt_typing.specs.Calls.{Argument, Plain, Nullable, NullItself, Row, Asks, Allocates, AllocatesZeros, Prints, Begins, Reaches, AsksFrom, Keeps, leaf, behind, behind_word, both_values, converted_all, called_with, function_called, meaning_called, is_null_word, argument_values, asked, allocated, allocation_of, allocation, zeroed, plain_values, written, printed, entry_parameter, entry_of, entry, with_entry, begun_at, begun, pointed_at, kept, kept_name, format_in, print_form, row_called, miscounted}
+use Rattle.kt_typing.specs.Calls.{Argument, Plain, Nullable, NullItself, both_values, converted_all, called_with, is_null_word, argument_values, asked, allocated, allocation_of, allocation, zeroed, plain_values, written, entry_parameter, entry_of, entry, begun_at, begun, pointed_at, kept, kept_name}
 use Rattle.kt_typing.specs.declared.fault.Kind.TheVariants as fault_kind
 use Rattle.kt_typing.specs.Faults.{fault_at, bad_type}
 use Rattle.kt_typing.specs.Environment.{Environment, Meaning, Missing, Barred, Stands, Routine}
-use Rattle.kt_typing.specs.Formats.{are_taken, parts_of, taken_by}
-use Rattle.kt_typing.specs.Forms.{Form, Ruled, Parts, NoPart, Part, fitting, typed, operands}
-use Rattle.kt_typing.specs.Operands.{Operand, Value, operand, valued, of_type, value, scalar, types_of, trees_of}
-use Rattle.kt_typing.specs.Rules.{with_value, requested, convert, is_size, given}
+use Rattle.kt_typing.specs.Formats.{are_taken, parts_of}
+use Rattle.kt_typing.specs.Operands.{Operand, Value, valued, of_type, value, scalar, types_of, trees_of}
+use Rattle.kt_typing.specs.Rules.{with_value, requested, convert, is_size}
 use Rattle.kt_typing.specs.Sound.{IsSoundAs, IsSound}
-use Rattle.kt_typing.proofs.Exact.{both-there}
-use Rattle.kt_typing.proofs.SoundForms.{ruled-sound, no-part-sound, part-sound, leaf-sound}
 use Rattle.kt_typing.proofs.SoundOperands.{IsOf, Sound, sound-err, sound-ok, sound-given, sound-if, sound-with, value-sound, scalar-sound, types-sound, requested-sound}
 use Rattle.kt_typing.proofs.SoundRules.{convert-sound, sound-option}
 
@@ -39,18 +36,18 @@ module _ (s : Scope) where
   none-left : (ws : List Value) → Some [] ≡ Some ws → AllByRecursion (IsOf s) ws
   none-left ws e = let same : [] ≡ ws = cc in subst (λ us. AllByRecursion (IsOf s) us) same tt
 
-  converted-all-sound : (ts : List ℕ) (xs : List Operand) → AllByRecursion (IsSound s) xs → (ws : List Value) → converted_all s ts xs ≡ Some ws → AllByRecursion (IsOf s) ws
+  pub converted-all-sound : (ts : List ℕ) (xs : List Operand) → AllByRecursion (IsSound s) xs → (ws : List Value) → converted_all s ts xs ≡ Some ws → AllByRecursion (IsOf s) ws
   converted-all-sound [] [] all ws e = none-left ws e
   converted-all-sound (t ∷ ts) (x ∷ xs) all ws e =
       all-by (convert s t x) (converted_all s ts xs) (λ w is. (convert-sound s t x all.0 w is).0) (converted-all-sound ts xs all.1) ws e
   converted-all-sound [] (x ∷ xs) all ws e = absurd cc
   converted-all-sound (t ∷ ts) [] all ws e = absurd cc
 
-  plain-values-sound : (xs : List Operand) → AllByRecursion (IsSound s) xs → (ws : List Value) → plain_values s xs ≡ Some ws → AllByRecursion (IsOf s) ws
+  pub plain-values-sound : (xs : List Operand) → AllByRecursion (IsSound s) xs → (ws : List Value) → plain_values s xs ≡ Some ws → AllByRecursion (IsOf s) ws
   plain-values-sound [] all ws e = none-left ws e
   plain-values-sound (x ∷ xs) all ws e = all-by (value s x) (plain_values s xs) (value-sound s x all.0) (plain-values-sound xs all.1) ws e
 
-  argument-values-sound : (as' : List Argument) (xs : List Operand) → AllByRecursion (IsSound s) xs → (ws : List Value) → argument_values s as' xs ≡ Some ws → AllByRecursion (IsOf s) ws
+  pub argument-values-sound : (as' : List Argument) (xs : List Operand) → AllByRecursion (IsSound s) xs → (ws : List Value) → argument_values s as' xs ≡ Some ws → AllByRecursion (IsOf s) ws
   argument-values-sound [] [] all ws e = none-left ws e
   argument-values-sound [] (x ∷ xs) all ws e = absurd cc
   argument-values-sound (Plain ∷ as') [] all ws e = absurd cc
@@ -67,17 +64,17 @@ module _ (s : Scope) where
 module _ (env : Environment) where
   -- ---- rules of calls
 
-  called-with-sound : (at f : ℕ) (h : Head) → slice_get env.scope.functions f ≡ Some h → (o : Option (List Value))
+  pub called-with-sound : (at f : ℕ) (h : Head) → slice_get env.scope.functions f ≡ Some h → (o : Option (List Value))
       → ((ws : List Value) → o ≡ Some ws → AllByRecursion (IsOf env.scope) ws) → Sound env.scope (called_with at f h o)
   called-with-sound at f h is None all = sound-err env.scope _
   called-with-sound at f h is (Some vs) all =
       sound-given env.scope at _ _ (ap (λ o. call_kind o (types env.scope (trees_of vs))) is ∙ ap (call_kind (Some h)) (types-sound env.scope vs (all vs refl)))
 
-  asked-sound : (at : ℕ) (r : Request) (t : Option ℕ) (o : Option (List Value)) → ((ws : List Value) → o ≡ Some ws → AllByRecursion (IsOf env.scope) ws) → Sound env.scope (asked env at r t o)
+  pub asked-sound : (at : ℕ) (r : Request) (t : Option ℕ) (o : Option (List Value)) → ((ws : List Value) → o ≡ Some ws → AllByRecursion (IsOf env.scope) ws) → Sound env.scope (asked env at r t o)
   asked-sound at r t None all = sound-err env.scope _
   asked-sound at r t (Some vs) all = requested-sound env at r t vs (all vs refl)
 
-  written-sound : (at : ℕ) (cs : List Conversion) (o : Option (List Value)) → ((ws : List Value) → o ≡ Some ws → AllByRecursion (IsOf env.scope) ws) → Sound env.scope (written env at cs o)
+  pub written-sound : (at : ℕ) (cs : List Conversion) (o : Option (List Value)) → ((ws : List Value) → o ≡ Some ws → AllByRecursion (IsOf env.scope) ws) → Sound env.scope (written env at cs o)
   written-sound at cs None all = sound-err env.scope _
   written-sound at cs (Some vs) all = sound-if env.scope (are_taken env.scope cs (types_of vs)) _ _ (λ y. requested-sound env at (request.Print (parts_of [] cs)) (Some int_type) vs (all vs refl)) (λ y. sound-err env.scope _)
 
@@ -114,12 +111,12 @@ module _ (env : Environment) where
   allocation-as at x standing.Nothing is h = by-value at x h
   allocation-as at x (standing.Entry f) is h = by-value at x h
 
-  allocation-sound : (at : ℕ) (xs : List Operand) → AllByRecursion (IsSound env.scope) xs → Sound env.scope (allocation env at xs)
+  pub allocation-sound : (at : ℕ) (xs : List Operand) → AllByRecursion (IsSound env.scope) xs → Sound env.scope (allocation env at xs)
   allocation-sound at [] all = sound-err env.scope _
   allocation-sound at (x ∷ []) all = allocation-as at x x.standing refl all.0
   allocation-sound at (x ∷ y ∷ xs) all = sound-err env.scope _
 
-  zeroed-sound : (at : ℕ) (xs : List Operand) → AllByRecursion (IsSound env.scope) xs → Sound env.scope (zeroed env at xs)
+  pub zeroed-sound : (at : ℕ) (xs : List Operand) → AllByRecursion (IsSound env.scope) xs → Sound env.scope (zeroed env at xs)
   zeroed-sound at [] all = sound-err env.scope _
   zeroed-sound at (x ∷ []) all = sound-err env.scope _
   zeroed-sound at (x ∷ y ∷ []) all = sound-if env.scope (is_size y.standing) _ _
@@ -139,13 +136,13 @@ module _ (env : Environment) where
   begun-as at (standing.Product c) p y h = sound-err env.scope _
   begun-as at standing.Nothing p y h = sound-err env.scope _
 
-  begun-sound : (at : ℕ) (xs : List Operand) → AllByRecursion (IsSound env.scope) xs → Sound env.scope (begun env at xs)
+  pub begun-sound : (at : ℕ) (xs : List Operand) → AllByRecursion (IsSound env.scope) xs → Sound env.scope (begun env at xs)
   begun-sound at [] all = sound-err env.scope _
   begun-sound at (x ∷ []) all = sound-err env.scope _
   begun-sound at (x ∷ y ∷ []) all = begun-as at x.standing x.ty y all.1.0
   begun-sound at (x ∷ y ∷ z ∷ xs) all = sound-err env.scope _
 
-  pointed-at-sound : (at : ℕ) (r : ℕ → Request) (t : Option ℕ) (o : Option (List ℕ)) → Sound env.scope (pointed_at env at r t o)
+  pub pointed-at-sound : (at : ℕ) (r : ℕ → Request) (t : Option ℕ) (o : Option (List ℕ)) → Sound env.scope (pointed_at env at r t o)
   pointed-at-sound at r t None = sound-err env.scope _
   pointed-at-sound at r t (Some name) = sound-if env.scope (is_point_name name) _ _ (λ y. requested-sound env at (r (env.point name)) t [] tt) (λ y. sound-err env.scope _)
 
@@ -153,7 +150,7 @@ module _ (env : Environment) where
   entry-of-sound at f None = sound-err env.scope _
   entry-of-sound at f (Some p) = sound-ok env.scope _ tt
 
-  entry-sound : (at : ℕ) (m : Meaning) → Sound env.scope (entry env at m)
+  pub entry-sound : (at : ℕ) (m : Meaning) → Sound env.scope (entry env at m)
   entry-sound at Missing = sound-err env.scope _
   entry-sound at Barred = sound-err env.scope _
   entry-sound at (Stands what t e) = sound-err env.scope _
@@ -180,6 +177,6 @@ module _ (env : Environment) where
   kept-sound at (Stands standing.Nothing t e) = sound-err env.scope _
   kept-sound at (Stands (standing.Entry f) t e) = sound-err env.scope _
 
-  kept-name-sound : (at : ℕ) (o : Option Name) → Sound env.scope (kept_name env at o)
+  pub kept-name-sound : (at : ℕ) (o : Option Name) → Sound env.scope (kept_name env at o)
   kept-name-sound at None = sound-err env.scope _
   kept-name-sound at (Some n) = kept-sound at (env.name n.word)

@@ -3,13 +3,13 @@ use Rattle.std.proofs.Common.{◌≡◌, ℕ, ◌==◌, ◌&&◌, ◌||◌, Bool
 use Rattle.std.proofs.lemmas.Bool.Decides.{nat_tests}
 use Rattle.kt_tree.specs.Tree.{Expression, Chosen}
 use Rattle.kt_tree.specs.Kinds.{Scope, is_integer, is_pointer, is_scalar, common}
-use Rattle.kt_tree.specs.Typed.{kind, Of, if_so, is_choice, choice_kind}
+use Rattle.kt_tree.specs.Typed.{Of, if_so, is_choice}
 use Rattle.kt_typing.specs.declared.fault.Fault.{Fault}
 use Rattle.kt_typing.specs.declared.standing.Standing.{Standing}
 use Rattle.kt_typing.specs.declared.standing.Standing.TheVariants as standing
 use Rattle.kt_typing.specs.Environment.{Environment}
-use Rattle.kt_typing.specs.Operands.{Operand, Value, operand, valued, of_type, value, scalar_of, scalar}
-use Rattle.kt_typing.specs.Rules.{given, with_value, with_two, is_null_itself, null_tree, null_value, null_beside, value_beside, choice_type, chosen, null_if, choice}
+use Rattle.kt_typing.specs.Operands.{Operand, Value, valued, of_type, value, scalar_of, scalar}
+use Rattle.kt_typing.specs.Rules.{given, with_value, with_two, is_null_itself, null_tree, null_beside, value_beside, choice_type, chosen, null_if, choice}
 use Rattle.kt_typing.specs.Sound.{HasType, IsNullTree, IsSoundAs, IsSound}
 use Rattle.kt_typing.proofs.SoundOperands.{IsOf, Sound, sound-err, sound-ok, sound-given, sound-with, sound-two, scalar-sound}
 use Rattle.kt_typing.proofs.SoundRules.{beside-sound, chosen-kind}
@@ -98,8 +98,8 @@ module _ (env : Environment) where
   pub choice-sound : (at : ℕ) (c a b : Operand) → IsSound env.scope c → IsSound env.scope a → IsSound env.scope b → Sound env.scope (choice env at c a b)
   choice-sound at c a b h k l = null-if-sound (is_null_itself a.standing && is_null_itself b.standing) _
       (sound-with env.scope at (scalar env.scope c) _ (λ v vs. sound-two env.scope at _ _ _
-          (λ p q ps qs. chosen-sound at v p q (scalar-sound env.scope c h v vs) (beside-sound env.scope a b k p ps) (beside-sound env.scope b a l q qs))))
+      (λ p q ps qs. chosen-sound at v p q (scalar-sound env.scope c h v vs) (beside-sound env.scope a b k p ps) (beside-sound env.scope b a l q qs))))
       (λ n x is. let (na, nb) = both-of (is_null_itself a.standing) (is_null_itself b.standing) n in
-          arms-null at (scalar env.scope c) (value_beside env.scope a b) (value_beside env.scope b a) x (scalar-sound env.scope c h)
-          (λ v vs. (beside-sound env.scope a b k v vs, null-beside-null env.scope a b k na nb v vs))
-          (λ v vs. (beside-sound env.scope b a l v vs, null-beside-null env.scope b a l nb na v vs)) is)
+      arms-null at (scalar env.scope c) (value_beside env.scope a b) (value_beside env.scope b a) x (scalar-sound env.scope c h)
+      (λ v vs. (beside-sound env.scope a b k v vs, null-beside-null env.scope a b k na nb v vs))
+      (λ v vs. (beside-sound env.scope b a l v vs, null-beside-null env.scope b a l nb na v vs)) is)

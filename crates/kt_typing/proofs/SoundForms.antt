@@ -1,5 +1,5 @@
 -- A form is sound where its parts and its rule are.
-use Rattle.std.proofs.Common.{◌≡◌, ℕ, List, [], ◌∷◌, Option, Some, None, Result, Ok, Err, refl, sym, subst}
+use Rattle.std.proofs.Common.{◌≡◌, ℕ, List, [], ◌∷◌, Option, Some, None, Result, sym, subst}
 use Rattle.std.specs.List.{AllByRecursion}
 use Rattle.kt_tree.specs.Kinds.{Scope}
 use Rattle.kt_typing.specs.declared.fault.Fault.{Fault}

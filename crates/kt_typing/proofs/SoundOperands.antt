@@ -1,22 +1,19 @@
 -- Operands and their values are sound.
-use Rattle.std.proofs.Common.{◌≡◌, ◌⊎◌, inl, inr, ℕ, ◌==◌, ◌&&◌, ◌||◌, Bool, true, false, List, [], ◌∷◌, map, slice_get, Option, Some, None, option_and_then, Result, Ok, Err, if◌then◌else◌, refl, sym, ap, ◌∙◌, subst, rules, arith}
-use Rattle.std.specs.Option.{option_map, is_some}
+use Rattle.std.proofs.Common.{◌≡◌, ℕ, ◌==◌, Bool, true, false, List, [], ◌∷◌, slice_get, Option, Some, None, Result, Ok, Err, if◌then◌else◌, refl, ap, subst, arith}
+use Rattle.std.specs.Option.{option_map}
 use Rattle.std.specs.List.{AllByRecursion}
-use Rattle.kt_tree.specs.declared.expr.Constant.TheVariants as constant
 use Rattle.kt_tree.specs.declared.expr.Operation.{Operation}
-use Rattle.kt_tree.specs.declared.expr.Operation.TheVariants as operation
 use Rattle.kt_tree.specs.declared.expr.Request.{Request}
-use Rattle.kt_tree.specs.declared.expr.Request.TheVariants as request
-use Rattle.kt_tree.specs.Tree.{Expression, Constant', LocalRead, Operated, Requested, Expressions, NoMore, More}
-use Rattle.kt_tree.specs.Kinds.{Scope, pointee, points_to, is_same, is_integer, is_pointer, is_scalar, is_operation, is_request}
-use Rattle.kt_tree.specs.Typed.{Kind, kind, types, NoValue, Of, if_so, value_type, operation_kind, request_kind}
+use Rattle.kt_tree.specs.Tree.{Expression, LocalRead, Operated, Requested}
+use Rattle.kt_tree.specs.Kinds.{Scope, pointee, is_scalar, is_operation, is_request}
+use Rattle.kt_tree.specs.Typed.{Kind, kind, types, NoValue, Of, operation_kind, request_kind}
 use Rattle.kt_typing.specs.declared.fault.Fault.{Fault}
 use Rattle.kt_typing.specs.declared.standing.Standing.{Standing}
 use Rattle.kt_typing.specs.declared.standing.Standing.TheVariants as standing
 use Rattle.kt_typing.specs.Environment.{Environment}
 use Rattle.kt_typing.specs.Operands.{Operand, Value, of_type, loaded, value_of, value, scalar_of, scalar, types_of, trees_of}
-use Rattle.kt_typing.specs.Rules.{given, with_value, with_two, operated, requested, lacks_cells, converted, convert, is_null, null_value, null_tree}
-use Rattle.kt_typing.specs.Sound.{HasType, IsNullTree, IsSoundAs, IsSound}
+use Rattle.kt_typing.specs.Rules.{given, with_value, with_two, operated, requested, lacks_cells}
+use Rattle.kt_typing.specs.Sound.{HasType, IsSoundAs, IsSound}
 use Rattle.std.proofs.lemmas.Bool.Decides.{nat_tests}
 
 abbrev pub IsOf : Scope → Value → Type 0

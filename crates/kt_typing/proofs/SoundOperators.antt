@@ -1,5 +1,5 @@
 -- What the rules of operators give is sound.
-use Rattle.std.proofs.Common.{◌≡◌, ℕ, ◌==◌, ◌&&◌, ◌||◌, not, Bool, true, false, nat_le, pos, List, [], ◌∷◌, slice_get, Option, Some, None, Result, Ok, Err, if◌then◌else◌, refl, sym, ap, ◌∙◌, subst}
+use Rattle.std.proofs.Common.{◌≡◌, ℕ, ◌==◌, ◌&&◌, not, Bool, true, false, pos, List, [], ◌∷◌, Option, Some, None, Result, Ok, Err, if◌then◌else◌, refl}
 use Rattle.kt_lex.specs.declared.number.Number.{Number}
 use Rattle.kt_grammar.specs.declared.operator.AssignOperator.{AssignOperator}
 use Rattle.kt_grammar.specs.declared.operator.BinaryOperator.{BinaryOperator}
@@ -9,7 +9,6 @@ use Rattle.kt_grammar.specs.declared.operator.PrefixOperator.TheVariants as pref
 use Rattle.kt_grammar.specs.declared.tree.Name.{Name}
 use Rattle.kt_grammar.specs.declared.tree.TypeName.{TypeName}
 use Rattle.kt_types.specs.declared.kinds.Field.{Field}
-use Rattle.kt_types.specs.declared.kinds.FieldDecl.{FieldDecl}
 use Rattle.kt_types.specs.declared.kinds.Ty.{Ty}
 use Rattle.kt_types.specs.declared.kinds.Ty.TheVariants as ty
 use Rattle.kt_types.specs.Table.{fields_of}
@@ -19,18 +18,18 @@ use Rattle.kt_tree.specs.declared.expr.Constant.TheVariants as constant
 use Rattle.kt_tree.specs.declared.expr.Operation.{Operation}
 use Rattle.kt_tree.specs.declared.expr.Operation.TheVariants as operation
 use Rattle.kt_tree.specs.declared.expr.Request.TheVariants as request
-use Rattle.kt_tree.specs.Tree.{Expression, Constant', LocalRead, Operated, Both, Either, Chosen}
-use Rattle.kt_tree.specs.Kinds.{type_at, is_integer, is_pointer, is_scalar, is_array_type, is_operation, pointee, field_pointee_of, int_type}
-use Rattle.kt_tree.specs.Typed.{kind, Of, if_so, choice_kind}
+use Rattle.kt_tree.specs.Tree.{Expression, Constant', Operated, Both, Either}
+use Rattle.kt_tree.specs.Kinds.{type_at, is_integer, is_pointer, is_array_type, is_operation, pointee, field_pointee_of, int_type}
+use Rattle.kt_tree.specs.Typed.{kind, Of, if_so}
 use Rattle.kt_typing.specs.declared.fault.Fault.{Fault}
 use Rattle.kt_typing.specs.declared.standing.Standing.{Standing}
 use Rattle.kt_typing.specs.declared.standing.Standing.TheVariants as standing
 use Rattle.kt_typing.specs.Environment.{Environment, Meaning, Missing, Barred, Stands, Routine, type_named}
-use Rattle.kt_typing.specs.Operands.{Operand, Value, operand, valued, of_type, value, scalar, types_of, trees_of}
-use Rattle.kt_typing.specs.Rules.{given, with_value, with_two, constant_at, operated, lacks_cells, is_null_itself, null_tree, converted, convert, number, number_type, null_at, meant, size, place_at, indexed, element_of, element, field_standing, field_found, field_at, pointed_type, pointed, is_whole, member, Combined, combination, combined_at, of_values, value_beside, is_size, count_of, times_size, product, logical, operator, choice_type, chosen, null_if, choice, compound_of, set_local, taken, modified, cell_changed, changed_of, changed, stored, assigned_of, assignment, one, negated, dereferenced, address_of, unary, cast_value, cast}
-use Rattle.kt_typing.specs.Sound.{HasType, IsNullTree, IsSoundAs, IsSound, IsSoundMeaning, IsRight}
+use Rattle.kt_typing.specs.Operands.{Operand, Value, operand, of_type, value, scalar, types_of, trees_of}
+use Rattle.kt_typing.specs.Rules.{given, with_two, constant_at, operated, lacks_cells, converted, convert, number, number_type, null_at, meant, size, indexed, element_of, element, field_standing, field_found, field_at, pointed_type, pointed, is_whole, member, Combined, combination, combined_at, of_values, value_beside, is_size, times_size, product, logical, operator, compound_of, set_local, taken, modified, cell_changed, changed_of, changed, stored, assigned_of, assignment, one, address_of, unary, cast_value, cast}
+use Rattle.kt_typing.specs.Sound.{HasType, IsNullTree, IsSoundAs, IsSound, IsSoundMeaning}
 use Rattle.kt_typing.proofs.SoundOperands.{IsOf, Sound, sound-err, sound-ok, sound-given, sound-if, sound-with, sound-two, value-sound, scalar-sound, operated-kind, operated-sound, requested-sound}
-use Rattle.kt_typing.proofs.SoundRules.{converted-sound, convert-sound, place-sound, place-at-sound, given-valued, indexed-as, whole-as, sound-option, beside-sound, both-kind, either-kind, chosen-kind, modified-kind-is, local-kind-is}
+use Rattle.kt_typing.proofs.SoundRules.{converted-sound, convert-sound, place-sound, place-at-sound, given-valued, indexed-as, whole-as, sound-option, beside-sound, both-kind, either-kind, modified-kind-is, local-kind-is}
 
 module _ (env : Environment) where
   abbrev IsFine : Operand → Type 0
@@ -241,8 +240,8 @@ module _ (env : Environment) where
   address-as at standing.Nothing t e h = sound-err env.scope _
   address-as at (standing.Entry f) t e h = sound-err env.scope _
 
-  pub one-sound : IsOf env.scope one
-  one-sound = refl
+  pub one-is : IsOf env.scope one
+  one-is = refl
 
   pub unary-sound : (at : ℕ) (op : PrefixOperator) (x : Operand) → IsFine x → Gives (unary env at op x)
   unary-sound at prefix.Negate x h = sound-with env.scope at (value env.scope x) _ (λ v vs. operated-sound env at operation.Subtract _ (_ ∷ v ∷ []) (refl, (value-sound env.scope x h v vs, tt)))
@@ -250,8 +249,8 @@ module _ (env : Environment) where
   unary-sound at prefix.Dereference x h = sound-with env.scope at (value env.scope x) _ (λ p ps.
       sound-if env.scope (is_pointer env.scope p.ty) _ _ (λ y. sound-ok env.scope _ (place-sound env.scope p.ty p.tree (value-sound env.scope x h p ps))) (λ y. sound-err env.scope _))
   unary-sound at prefix.AddressOf x h = address-as at x.standing x.ty x.tree h
-  unary-sound at prefix.Increment x h = changed-sound at false binary.Add x one h one-sound
-  unary-sound at prefix.Decrement x h = changed-sound at false binary.Subtract x one h one-sound
+  unary-sound at prefix.Increment x h = changed-sound at false binary.Add x one h one-is
+  unary-sound at prefix.Decrement x h = changed-sound at false binary.Subtract x one h one-is
 
   cast-value-sound : (at : ℕ) (allocates : Bool) (t : ℕ) (v : Value) → IsOf env.scope v → Gives (cast_value env at allocates t v)
   cast-value-sound at allocates t v h = sound-if env.scope (is_integer env.scope t) _ _

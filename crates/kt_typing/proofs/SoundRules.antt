@@ -1,35 +1,18 @@
 -- What the rules of operators give is sound.
-use Rattle.std.proofs.Common.{◌≡◌, ◌⊎◌, inl, inr, ℕ, ◌==◌, ◌&&◌, ◌||◌, not, Bool, true, false, nat_le, pos, List, [], ◌∷◌, map, slice_get, Option, Some, None, option_and_then, Result, Ok, Err, if◌then◌else◌, refl, sym, ap, ◌∙◌, subst, rules, arith}
-use Rattle.std.specs.Option.{option_map, is_some}
+use Rattle.std.proofs.Common.{◌≡◌, ℕ, ◌==◌, ◌&&◌, Bool, true, false, [], ◌∷◌, slice_get, Option, Some, None, option_and_then, Result, Ok, Err, if◌then◌else◌, refl, ◌∙◌, subst, arith}
 use Rattle.std.proofs.lemmas.Bool.Decides.{nat_tests}
-use Rattle.kt_lex.specs.declared.number.Number.{Number}
-use Rattle.kt_grammar.specs.declared.operator.AssignOperator.{AssignOperator}
-use Rattle.kt_grammar.specs.declared.operator.BinaryOperator.{BinaryOperator}
-use Rattle.kt_grammar.specs.declared.operator.BinaryOperator.TheVariants as binary
-use Rattle.kt_grammar.specs.declared.operator.PrefixOperator.{PrefixOperator}
-use Rattle.kt_grammar.specs.declared.operator.PrefixOperator.TheVariants as prefix
-use Rattle.kt_grammar.specs.declared.tree.Name.{Name}
-use Rattle.kt_types.specs.declared.kinds.Field.{Field}
-use Rattle.kt_types.specs.declared.kinds.Ty.{Ty}
-use Rattle.kt_types.specs.declared.kinds.Ty.TheVariants as ty
-use Rattle.kt_types.specs.Table.{fields_of}
-use Rattle.kt_types.specs.Layout.{field_named}
-use Rattle.kt_tree.specs.declared.expr.Constant.{Constant}
-use Rattle.kt_tree.specs.declared.expr.Constant.TheVariants as constant
 use Rattle.kt_tree.specs.declared.expr.Operation.{Operation}
 use Rattle.kt_tree.specs.declared.expr.Operation.TheVariants as operation
-use Rattle.kt_tree.specs.declared.expr.Request.TheVariants as request
-use Rattle.kt_tree.specs.Tree.{Expression, Constant', LocalRead, LocalSet, LocalSwapped, Operated, Requested, Modified, Both, Either, Chosen, Called, NoMore, More}
-use Rattle.kt_tree.specs.Kinds.{Scope, type_at, is_integer, is_pointer, is_scalar, is_array_type, is_constant, is_operation, is_request, pointee, common, field_pointee_of, int_type, long_type}
-use Rattle.kt_tree.specs.Typed.{Kind, kind, NoValue, Of, if_so, value_type, set_kind, logical_kind, choice_kind, operation_kind, modified_kind}
+use Rattle.kt_tree.specs.Tree.{Expression, Operated, Modified, Both, Either, Chosen}
+use Rattle.kt_tree.specs.Kinds.{Scope, is_pointer, is_scalar, is_operation, pointee}
+use Rattle.kt_tree.specs.Typed.{kind, Of, if_so, set_kind, logical_kind, choice_kind, modified_kind}
 use Rattle.kt_typing.specs.declared.fault.Fault.{Fault}
 use Rattle.kt_typing.specs.declared.standing.Standing.{Standing}
 use Rattle.kt_typing.specs.declared.standing.Standing.TheVariants as standing
-use Rattle.kt_typing.specs.Environment.{Environment, Meaning, Missing, Barred, Stands, Routine}
-use Rattle.kt_typing.specs.Operands.{Operand, Value, operand, valued, of_type, value, scalar, types_of, trees_of}
-use Rattle.kt_typing.specs.Rules.{given, with_value, with_two, constant_at, operated, requested, lacks_cells, is_null, is_null_itself, null_tree, null_value, converted, convert, number, number_type, null_at, meant, place_standing, place_at, indexed, element_of, element, field_standing, field_found, field_at, pointed_type, pointed, is_whole, member, Combined, combination, combined_at, of_values, null_beside, value_beside, is_size, count_of, times_size, product, logical, operator, choice_type, chosen, null_if, choice, compound_of, local_changed, set_local, taken, modified, cell_changed, changed_of, changed, stored, assigned_of, assignment, one, negated, dereferenced, address_of, unary, cast_value, cast}
-use Rattle.kt_typing.specs.Sound.{HasType, IsNullTree, IsSoundAs, IsSound, IsSoundMeaning, IsRight}
-use Rattle.kt_typing.proofs.SoundOperands.{IsOf, Sound, sound-err, sound-ok, sound-given, sound-if, sound-with, sound-two, value-sound, scalar-sound, operated-kind, operated-sound, requested-sound}
+use Rattle.kt_typing.specs.Operands.{Operand, Value, operand, valued, of_type, value, scalar, trees_of}
+use Rattle.kt_typing.specs.Rules.{given, is_null, is_null_itself, null_value, converted, convert, place_standing, place_at, indexed, is_whole, null_beside, value_beside, local_changed}
+use Rattle.kt_typing.specs.Sound.{HasType, IsNullTree, IsSoundAs, IsSound}
+use Rattle.kt_typing.proofs.SoundOperands.{IsOf, Sound, sound-err, sound-ok, value-sound, scalar-sound, operated-kind}
 
 -- ---- conversions
 

@@ -1,7 +1,6 @@
 -- Worked rows: expressions with their answers, in the environment of a small file.
 use Rattle.std.specs.Prelude.{ℕ, ◌==◌, Bool, true, false, List, [], ◌∷◌, codes, Option, Some, None, if◌then◌else◌}
 use Rattle.std.specs.Str.{bytes_eq}
-use Rattle.kt_lex.specs.declared.number.Number.{Number}
 use Rattle.kt_grammar.specs.declared.operator.AssignOperator.TheVariants as assign
 use Rattle.kt_grammar.specs.declared.operator.BinaryOperator.TheVariants as binary
 use Rattle.kt_grammar.specs.declared.operator.PrefixOperator.TheVariants as prefix
@@ -10,14 +9,13 @@ use Rattle.kt_grammar.specs.declared.keyword.RuleWord.TheVariants as word
 use Rattle.kt_grammar.specs.declared.tree.Base.{Base}
 use Rattle.kt_grammar.specs.declared.tree.Base.TheVariants as base
 use Rattle.kt_grammar.specs.declared.tree.Name.{Name}
-use Rattle.kt_grammar.specs.declared.tree.TypeName.{TypeName}
 use Rattle.kt_grammar.specs.Tree.{Term, Constant, Text, Null, Named, Called, Parenthesised, SizeOf, RuleValue, OldSymbol, Transformed, Element, Pointed, Prefixed, Operated, Chosen, Assigned, Terms, Nothing, More}
 use Rattle.kt_types.specs.declared.kinds.Ty.TheVariants as ty
 use Rattle.kt_types.specs.declared.kinds.View.TheVariants as view
 use Rattle.kt_types.specs.Table.{Table}
 use Rattle.kt_tree.specs.declared.expr.Constant.TheVariants as constant
 use Rattle.kt_tree.specs.Tree.{Expression, Constant', LocalRead}
-use Rattle.kt_tree.specs.Kinds.{Scope, Head}
+use Rattle.kt_tree.specs.Kinds.{Scope}
 use Rattle.kt_typing.specs.declared.fault.Fault.{Fault}
 use Rattle.kt_typing.specs.declared.fault.Kind.TheVariants as kind
 use Rattle.kt_typing.specs.declared.standing.Standing.TheVariants as standing

@@ -1,7 +1,6 @@
 -- One rule for each operator (ISO/IEC 9899:2011, 6.5), over parts that have types. What an operation takes is said by the judgment
 -- of typed trees alone: a rule finds the tree, and the tree has its type or the rule is broken. `at` is where the whole begins.
-use Rattle.std.specs.Prelude.{ℕ, ℤ, pos, ◌==◌, ◌&&◌, ◌||◌, not, Bool, true, false, nat_le, List, [], ◌∷◌, slice_get, Option, Some, None, option_and_then, Result, Ok, Err, if◌then◌else◌}
-use Rattle.std.specs.Option.{option_map}
+use Rattle.std.specs.Prelude.{ℕ, pos, ◌==◌, ◌&&◌, ◌||◌, not, Bool, true, false, nat_le, List, [], ◌∷◌, slice_get, Option, Some, None, option_and_then, Result, Ok, Err, if◌then◌else◌}
 use Rattle.kt_lex.specs.declared.number.Number.{Number}
 use Rattle.kt_grammar.specs.declared.operator.BinaryOperator.{BinaryOperator}
 use Rattle.kt_grammar.specs.declared.operator.BinaryOperator.TheVariants as binary
@@ -24,8 +23,8 @@ use Rattle.kt_tree.specs.declared.expr.Operation.{Operation}
 use Rattle.kt_tree.specs.declared.expr.Operation.TheVariants as operation
 use Rattle.kt_tree.specs.declared.expr.Request.{Request}
 use Rattle.kt_tree.specs.declared.expr.Request.TheVariants as request
-use Rattle.kt_tree.specs.Tree.{Expression, Constant', LocalRead, LocalSet, LocalSwapped, Operated, Requested, Modified, Both, Either, Chosen}
-use Rattle.kt_tree.specs.Kinds.{Scope, type_at, is_integer, is_pointer, is_scalar, is_complete, is_array_type, is_constant, is_operation, is_request, pointee, field_pointee_of, common, char_type, int_type, long_type, mutex_type}
+use Rattle.kt_tree.specs.Tree.{Expression, Constant', LocalSet, LocalSwapped, Operated, Requested, Modified, Both, Either, Chosen}
+use Rattle.kt_tree.specs.Kinds.{Scope, type_at, is_integer, is_pointer, is_scalar, is_complete, is_array_type, is_constant, is_operation, is_request, pointee, field_pointee_of, common, int_type, long_type, mutex_type}
 use Rattle.kt_tree.specs.Typed.{Kind, NoValue, Of, if_so, set_kind, choice_kind, logical_kind, operation_kind, request_kind, modified_kind}
 use Rattle.kt_typing.specs.declared.fault.Fault.{Fault}
 use Rattle.kt_typing.specs.declared.standing.Standing.{Standing}

@@ -1,12 +1,12 @@
 -- What is typed has the type that the judgment of typed trees gives it.
-use Rattle.std.specs.Prelude.{◌≡◌, ℕ, true, false, List, slice_get, Option, Some, None, Result, Ok}
+use Rattle.std.specs.Prelude.{◌≡◌, ℕ, true, false, List, slice_get, Some}
 use Rattle.kt_grammar.specs.declared.keyword.RuleWord.{RuleWord}
 use Rattle.kt_tree.specs.Tree.{Expression, LocalRead}
 use Rattle.kt_tree.specs.Kinds.{Scope, pointee, is_integer, is_pointer, is_scalar, int_type}
 use Rattle.kt_tree.specs.Typed.{kind, NoValue, Of}
 use Rattle.kt_typing.specs.declared.standing.Standing.{Standing}
 use Rattle.kt_typing.specs.declared.standing.Standing.TheVariants as standing
-use Rattle.kt_typing.specs.Environment.{Environment, Meaning, Missing, Barred, Stands, Routine}
+use Rattle.kt_typing.specs.Environment.{Environment, Meaning, Stands}
 use Rattle.kt_typing.specs.Operands.{Operand}
 use Rattle.kt_typing.specs.Rules.{null_tree}
 

@@ -7,6 +7,11 @@ ghost use Rattle.kt_typing.specs.Faults.{IsFirst};
 ghost use Rattle.kt_typing.specs.First.{first_fault};
 ghost use Rattle.kt_typing.specs.Forms.{Form, typed, IsFault};
 ghost use Rattle.kt_typing.specs.Operands.{Operand};
+ghost use Rattle.kt_grammar.specs.Tree.{Term};
+ghost use Rattle.kt_typing.specs.Environment.{Environment};
+ghost use Rattle.kt_typing.specs.Sound.{IsRight, IsSound};
+ghost use Rattle.kt_typing.specs.Terms.{form};
+ghost use Rattle.kt_typing.specs.declared.standing.Use.{Use};
 ghost use Rattle.kt_typing.specs.Rows.{c_file, rule_code, refused, accepted, refused_in_rules, accepted_in_rules};
 ghost use Rattle.kt_typing.specs.declared.fault.Fault.{Fault};
 
@@ -25,4 +30,10 @@ pub fn rows_law()
     ensures accepted { AllByRecursion (IsAccepted c_file) accepted }
     ensures refused_in_rules { AllByRecursion (IsRefused rule_code) refused_in_rules }
     ensures accepted_in_rules { AllByRecursion (IsAccepted rule_code) accepted_in_rules }
+{}
+
+/// Where names and words stand for what their trees give, the tree of each expression that has a type gives that type, by the
+/// judgment of typed trees.
+pub fn sound_law()
+    ensures { (env : Environment) (u : Use) (e : Term) (x : Operand) → IsRight env → typed (form env u e) ≡ Some x → IsSound env.scope x }
 {}

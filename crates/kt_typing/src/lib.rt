@@ -10,5 +10,5 @@ mod standing;
 pub use builtin::Builtin;
 pub use fault::{Fault, Kind};
 pub use format::Conversion;
-pub use laws::{rows_law, typing_law};
+pub use laws::{rows_law, sound_law, typing_law};
 pub use standing::{Standing, Use};
