@@ -19,7 +19,7 @@ use Rattle.kt_typing.specs.Forms.{Form, Ruled, Parts, NoPart, Part, typed, opera
 use Rattle.kt_typing.specs.Operands.{Operand}
 use Rattle.kt_typing.specs.Rules.{wrong, null_at, element, member, pointed, operator, choice, changed, step_operator, one, unary, cast, assignment}
 use Rattle.kt_typing.specs.Sound.{IsSound, IsRight}
-use Rattle.kt_typing.specs.Terms.{first_token, first_text, first_name, count_of, struct_place, is_allocation, factor_use, operand_use, on_one, on_two, on_three, called, argument_uses, form, parts}
+use Rattle.kt_typing.specs.Terms.{first_token, first_text, first_name, argument_count, struct_place, is_allocation, factor_use, operand_use, on_one, on_two, on_three, called, argument_uses, form, parts}
 use Rattle.kt_typing.proofs.SoundCalls.{called-with-sound, asked-sound, written-sound, allocation-sound, zeroed-sound, begun-sound, pointed-at-sound, entry-sound, kept-name-sound, converted-all-sound, plain-values-sound, argument-values-sound}
 use Rattle.kt_typing.proofs.SoundChoices.{choice-sound}
 use Rattle.kt_typing.proofs.SoundForms.{ruled-sound, no-part-sound, part-sound, leaf-sound, one-sound, two-sound, three-sound}
@@ -115,7 +115,7 @@ module _ (env : Environment) (right : IsRight env) where
     form-sound u (Eof at) = leaf-sound env.scope _ (constant-sound env at (constant.Number (negsuc 0)) int_type)
     form-sound u (Named n) = leaf-sound env.scope _ (meant-sound env n.at n.at (env.name n.word) (right.names n.word))
     form-sound u (Called n args) =
-        called-sound env n (count_of args) (first_text args) (first_name args) (parts env (argument_uses (builtin_named n.word)) args) (builtin_named n.word)
+        called-sound env n (argument_count args) (first_text args) (first_name args) (parts env (argument_uses (builtin_named n.word)) args) (builtin_named n.word)
         (parts-sound (argument_uses (builtin_named n.word)) args) (behind-sound (argument_uses (builtin_named n.word)) args)
     form-sound u (Parenthesised at a) = form-sound u a
     form-sound u (SizeOf at t) = leaf-sound env.scope _ (size-sound env at (struct_place t.base at) t)

@@ -193,14 +193,14 @@ abbrev pub printed : Environment → ℕ → ℕ → Parts → Option (List Conv
 printed env at count parts None = Ruled None parts (λ xs. Err (bad_type at))
 printed env at count parts (Some cs) = Ruled (miscounted at (1 + taken_by cs) count) parts (λ xs. written env at cs (plain_values env.scope xs))
 
-abbrev pub is_entry_head : Option ℕ → List ℕ → Option ℕ
-is_entry_head None (p ∷ []) = Some p
-is_entry_head result parameters = None
+abbrev pub entry_head : Option ℕ → List ℕ → Option ℕ
+entry_head None (p ∷ []) = Some p
+entry_head result parameters = None
 
 -- the parameter of a `void` function of one parameter
 abbrev pub entry_parameter : Option Head → Option ℕ
 entry_parameter None = None
-entry_parameter (Some h) = is_entry_head h.result h.parameters
+entry_parameter (Some h) = entry_head h.result h.parameters
 
 abbrev pub entry_of : ℕ → ℕ → Option ℕ → Result Operand Fault
 entry_of at f None = Err (fault_at kind.Entry at)

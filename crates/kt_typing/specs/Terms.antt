@@ -70,7 +70,7 @@ is_allocation (Parenthesised at a) = is_allocation a
 is_allocation (Called n args) = is_allocator (builtin_named n.word)
 is_allocation _ = false
 
--- the same of the first argument
+-- the same of the first argument, and how many there are
 
 abbrev pub first_text : Terms → Option (List ℕ)
 first_text Nothing = None
@@ -80,9 +80,9 @@ abbrev pub first_name : Terms → Option Name
 first_name Nothing = None
 first_name (More a rest) = name_in a
 
-abbrev pub count_of : Terms → ℕ
-count_of Nothing = 0
-count_of (More a rest) = suc (count_of rest)
+abbrev pub argument_count : Terms → ℕ
+argument_count Nothing = 0
+argument_count (More a rest) = suc (argument_count rest)
 
 -- the place where a struct's name is spelled
 abbrev pub struct_place : Base → ℕ → ℕ
@@ -145,7 +145,7 @@ abbrev mutual
   form env u (Eof at) = leaf (constant_at env at (constant.Number (negsuc 0)) int_type)
   form env u (Named n) = leaf (meant n.at n.at (env.name n.word))
   form env u (Called n args) =
-      called env n (count_of args) (first_text args) (first_name args) (parts env (argument_uses (builtin_named n.word)) args) (builtin_named n.word)
+      called env n (argument_count args) (first_text args) (first_name args) (parts env (argument_uses (builtin_named n.word)) args) (builtin_named n.word)
   form env u (Parenthesised at a) = form env u a
   form env u (SizeOf at t) = leaf (size env at (struct_place t.base at) t)
   form env u (RuleValue at w) = leaf (meant at at (env.word w))
