@@ -5,6 +5,7 @@ pub mod SoundChoices
 pub mod SoundForms
 pub mod SoundOperands
 pub mod SoundOperators
+pub mod SoundPlaces
 pub mod SoundRules
 pub mod SoundTerms
 pub mod WorkedRows
