@@ -1,0 +1,11 @@
+pub mod Exact
+pub mod Firsts
+pub mod SoundCalls
+pub mod SoundChoices
+pub mod SoundForms
+pub mod SoundOperands
+pub mod SoundOperators
+pub mod SoundPlaces
+pub mod SoundRules
+pub mod SoundTerms
+pub mod WorkedRows

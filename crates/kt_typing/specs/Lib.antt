@@ -1,0 +1,12 @@
+pub mod Answers
+pub mod Calls
+pub mod Environment
+pub mod Faults
+pub mod First
+pub mod Formats
+pub mod Forms
+pub mod Operands
+pub mod Rows
+pub mod Rules
+pub mod Sound
+pub mod Terms
