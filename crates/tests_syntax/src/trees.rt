@@ -290,11 +290,15 @@ const BINARY: &str = "\
 6 %
 ";
 
+fn closeness(digits: &str) -> u32 {
+    digits.parse::<u32>().unwrap_or(0)
+}
+
 /// Two operators between three names: the one that binds closer is inside the other, and the left one where they bind alike.
 fn paired(alloc: Global, left: &str, right: &str) -> Result<String, AllocError> {
     let (close, one) = left.split_once(' ').unwrap_or((left, ""));
     let (closer, two) = right.split_once(' ').unwrap_or((right, ""));
-    let tree = if close < closer {
+    let tree = if closeness(close) < closeness(closer) {
         format!(in alloc; "({one} a ({two} b c))")?
     } else {
         format!(in alloc; "({two} ({one} a b) c)")?
