@@ -290,15 +290,19 @@ const BINARY: &str = "\
 6 %
 ";
 
-fn closeness(digits: &str) -> u32 {
-    digits.parse::<u32>().unwrap_or(0)
+/// A row of that table: how close the operator binds, and the operator.
+fn operator_of(row: &str) -> (u32, &str) {
+    match row.split_once(' ') {
+        Some((closeness, operator)) => (closeness.parse::<u32>().unwrap_or(0), operator),
+        None => (0, row),
+    }
 }
 
 /// Two operators between three names: the one that binds closer is inside the other, and the left one where they bind alike.
 fn paired(alloc: Global, left: &str, right: &str) -> Result<String, AllocError> {
-    let (close, one) = left.split_once(' ').unwrap_or((left, ""));
-    let (closer, two) = right.split_once(' ').unwrap_or((right, ""));
-    let tree = if closeness(close) < closeness(closer) {
+    let (close, one) = operator_of(left);
+    let (closer, two) = operator_of(right);
+    let tree = if close < closer {
         format!(in alloc; "({one} a ({two} b c))")?
     } else {
         format!(in alloc; "({two} ({one} a b) c)")?
