@@ -1,4 +1,6 @@
 pub mod Objects
-pub mod ByAddress
+pub mod Keys
+pub mod Keyed
 pub mod Heap
+pub mod Chain
 pub mod Inside
