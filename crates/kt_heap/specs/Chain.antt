@@ -26,7 +26,8 @@ IsIn k (j ∷ js) = (k ≡ j) ⊎ IsIn k js
 -- from this key on, the free keys of the list name each other in order, each once, and the last names none
 abbrev pub IsChain : List Key → List ℕ → Option ℕ → Type 0
 IsChain keys [] first = first ≡ None
-IsChain keys (k ∷ ks) first = (first ≡ Some k) × IsAway k ks × ((next : Option ℕ) × (slice_get keys k ≡ Some (Free next)) × IsChain keys ks next)
+IsChain keys (k ∷ ks) first =
+    (first ≡ Some k) × IsAway k ks × (next : Option ℕ) × (slice_get keys k ≡ Some (Free next)) × IsChain keys ks next
 
 -- all free keys are chained
 pub record IsChained (keys : List Key) (first : Option ℕ) : Type 0 where

@@ -3,7 +3,7 @@ ghost use Rattle.std.specs.Prelude.{◌≡◌, ◌<◌, [], length, None, Some, 
 ghost use Rattle.std.specs.Option.{option_map, option_copied};
 ghost use Rattle.kt_mem.specs.Memory.{value_in};
 ghost use Rattle.kt_heap.specs.Objects.{shown, obj_with};
-ghost use Rattle.kt_heap.specs.Keys.{key_of, generation_of, IsKeyTaken};
+ghost use Rattle.kt_heap.specs.Keys.{place_at, key_of, generation_of, AreAllUsed, IsKeyTaken};
 ghost use Rattle.kt_heap.specs.Keyed.{obj_of, obj_at, entry_at, IsPut};
 
 use crate::keys::Keys;
@@ -90,7 +90,9 @@ impl Keyed {
         ensures put { IfOk result (λ a. IsPut self.old self.new a (Some obj)) }
         ensures unused { IfOk result (λ a. obj_at self.old a ≡ None) }
         ensures generation { IfOk result (λ a. generation_of a ≡ generation) }
+        ensures free { IfOk result (λ a. place_at self.old.keys (key_of a) ≡ None) }
         ensures taken { IfOk result (λ a. IsKeyTaken self.old.keys self.new.keys (key_of a)) }
+        ensures all_used { OnOk result (AreAllUsed self.old.keys → AreAllUsed self.new.keys) }
         ensures kept { OnErr result (self.new ≡ self.old) }
     {
         self.slab.reserve(1)?;

@@ -1,7 +1,7 @@
 //! The keys of live heap objects.
 ghost use Rattle.std.specs.Prelude.{◌≡◌, ◌≢◌, ◌<◌, [], List, length, None, Some, IfOk, OnErr, slice_get};
 ghost use Rattle.std.specs.Option.{option_copied};
-ghost use Rattle.kt_heap.specs.Keys.{place_at, IsKeyPut, IsKeyTaken};
+ghost use Rattle.kt_heap.specs.Keys.{place_at, IsKeyPut, AreAllUsed, IsKeyTaken};
 ghost use Rattle.kt_heap.specs.Chain.{link_of};
 
 use std::alloc::{AllocError, Global};
@@ -65,6 +65,7 @@ impl Keys {
 
     /// Gives a place a key: a free one, or the next number where none is free.
     pub fn insert(&mut self, place: usize) -> Result<u32, AllocError>
+        ensures narrow { IfOk result (λ key. key < 4294967296) }
         ensures free { IfOk result (λ key. place_at self.old key ≡ None) }
         ensures used { IfOk result (λ key. IsKeyPut self.old self.new key (Some place)) }
         ensures taken { IfOk result (λ key. IsKeyTaken self.old self.new key) }
@@ -80,11 +81,13 @@ impl Keys {
         }
     }
 
-    /// Gives a place the next key.
+    /// Gives a place the next key. A key that does not fit is want of memory: no heap has so many live objects.
     fn push(&mut self, place: usize) -> Result<u32, AllocError>
+        requires { AreAllUsed self.old }
+        ensures narrow { IfOk result (λ key. key < 4294967296) }
         ensures free { IfOk result (λ key. place_at self.old key ≡ None) }
         ensures used { IfOk result (λ key. IsKeyPut self.old self.new key (Some place)) }
-        ensures key { IfOk result (λ key. key ≡ length self.old) }
+        ensures taken { IfOk result (λ key. IsKeyTaken self.old self.new key) }
         ensures kept { OnErr result (self.new ≡ self.old) }
     {
         let key = self.items.len();
