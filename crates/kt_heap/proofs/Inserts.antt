@@ -1,6 +1,6 @@
 -- The objects by address after an object was put, was written or was taken away.
-use Rattle.std.proofs.Common.{◌≡◌, ◌≢◌, ℕ, ◌==◌, ◌+◌, ◌*◌, ◌<◌, ◌⊎◌, inl, inr, Bool, true, false, cond, List, length, Option, None, Some, IsSome, refl, sym, ◌∙◌, ap, subst, arith}
-use Rattle.std.specs.Prelude.{slice_index_or}
+use Rattle.std.proofs.Common.{◌≡◌, ◌≢◌, ℕ, ◌==◌, ◌+◌, ◌*◌, ◌<◌, ◌⊎◌, inl, inr, Bool, true, false, cond, zero, suc, List, [], ◌∷◌, length, Option, None, Some, IsSome, refl, sym, ◌∙◌, ap, subst, arith}
+use Rattle.std.specs.Prelude.{slice_index_or, slice_set}
 use Rattle.std.specs.Option.{option_map}
 use Rattle.slab.specs.Slab.{Slab, Updates, get}
 use Rattle.kt_mem.specs.Memory.{Cell}
@@ -100,3 +100,51 @@ module _ (h : Keyed) (slots : List (Option Entry)) (a place : ℕ) (e x : Entry)
 pub obj_there : (h : Keyed) (a place : ℕ) (e : Entry) → place_at h.keys (key_of a) ≡ Some place → slice_index_or h.slots place None ≡ Some e → e.address ≡ a → obj_at h a ≡ Some e.obj
 obj_there h a place e used was own =
     ap (obj_of a) (ap (entry_in h.slots) used ∙ was) ∙ by_test (λ t. cond t (Some e.obj) None ≡ Some e.obj) e.address a (λ _. refl) (λ ne. absurd (ne own))
+
+-- ---- a write through a reference to a place
+
+set_same : (xs : List (Option Entry)) (i : ℕ) (e x : Entry) → slice_index_or xs i None ≡ Some e → slice_index_or (slice_set xs i (Some x)) i None ≡ Some x
+set_same [] i e x h = let never : ⊥ = cc in absurd never
+set_same (y ∷ ys) zero e x h = refl
+set_same (y ∷ ys) (suc i) e x h = set_same ys i e x h
+
+set_other : (xs : List (Option Entry)) (i : ℕ) (o : Option Entry) (p : ℕ) → p ≢ i → slice_index_or (slice_set xs i o) p None ≡ slice_index_or xs p None
+set_other [] i o p ne = refl
+set_other (y ∷ ys) zero o zero ne = absurd (ne refl)
+set_other (y ∷ ys) zero o (suc p) ne = refl
+set_other (y ∷ ys) (suc i) o zero ne = refl
+set_other (y ∷ ys) (suc i) o (suc p) ne = set_other ys i o p (λ e. ne (ap suc e))
+
+set_back : (xs : List (Option Entry)) (i : ℕ) (e : Entry) → slice_index_or xs i None ≡ Some e → slice_set xs i (Some e) ≡ xs
+set_back [] i e h = refl
+set_back (y ∷ ys) zero e h = ap (λ z. z ∷ ys) (sym h)
+set_back (y ∷ ys) (suc i) e h = ap (λ zs. y ∷ zs) (set_back ys i e h)
+
+module _ (h : Keyed) (a place : ℕ) (e x : Entry) (keyed : IsKeyed h) (used : place_at h.keys (key_of a) ≡ Some place) (was : slice_index_or h.slots place None ≡ Some e) where
+  -- what the address has is what stands there
+  pub stands_at : obj_at h a ≡ obj_of a (Some e)
+  stands_at = ap (obj_of a) (ap (entry_in h.slots) used ∙ was)
+
+  pub stored_keyed : x.address ≡ e.address → IsKeyed (record { slots = slice_set h.slots place (Some x); keys = h.keys })
+  stored_keyed same =
+      keyed_changed h (slice_set h.slots place (Some x)) h.keys (key_of a) place (record { keys_kept = λ k ne. refl; slots_kept = λ p ne. set_other h.slots place (Some x) p ne; alone = λ k ne. place_alone h (key_of a) place k keyed used ne }) keyed (λ p at. (x, ap (λ q. slice_index_or (slice_set h.slots place (Some x)) q None) (sym (some_is place p (sym used ∙ at))) ∙ set_same h.slots place e x was, ap key_of same ∙ own))
+    where
+      one : (o : Option Entry) (y z : Entry) → o ≡ Some y → o ≡ Some z → y ≡ z
+      one o y z f g = cc
+
+      own : key_of e.address ≡ key_of a
+      own =
+          let there = keyed (key_of a) place used in
+          ap (λ (y : Entry). key_of y.address) (one (slice_index_or h.slots place None) e there.0 was there.1) ∙ there.2
+
+  pub stored_put : (k : ℕ) (c : Cell) → x ≡ record e { obj = obj_with k c e.obj } → e.address ≡ a → IsPut h (record { slots = slice_set h.slots place (Some x); keys = h.keys }) a (option_map (obj_with k c) (obj_at h a))
+  stored_put k c is own =
+      subst (λ (o : Option Obj). IsPut h (record { slots = slice_set h.slots place (Some x); keys = h.keys }) a o) same (written_put h (slice_set h.slots place (Some x)) a place e x keyed used was own (ap (λ (y : Entry). y.address) is ∙ own) (set_same h.slots place e x was) (λ p ne. set_other h.slots place (Some x) p ne))
+    where
+      same : Some x.obj ≡ option_map (obj_with k c) (obj_at h a)
+      same =
+          ap (λ (y : Entry). Some y.obj) is ∙ ap (option_map (obj_with k c)) (sym (obj_there h a place e used was own))
+
+  pub stored_back : x ≡ e → ◌≡◌ {A = Keyed} (record { slots = slice_set h.slots place (Some x); keys = h.keys }) h
+  stored_back is =
+      ap (λ (y : Entry). record { slots = slice_set h.slots place (Some y); keys = h.keys }) is ∙ ap (λ (xs : List (Option Entry)). record { slots = xs; keys = h.keys }) (set_back h.slots place e was)

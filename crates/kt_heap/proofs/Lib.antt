@@ -2,6 +2,7 @@ pub mod Places
 pub mod Chains
 pub mod Addresses
 pub mod Inserts
+pub mod KeyedLaws
 pub mod Keeps
 pub mod NumbersKept
 pub mod Look

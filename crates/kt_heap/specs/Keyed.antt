@@ -1,8 +1,10 @@
 -- Heap objects by address. An address is a key and a generation; the object stands in a slab beside its address, at the
 -- place that its key has.
-use Rattle.std.specs.Prelude.{◌≡◌, ℕ, ◌==◌, List, Option, None, Some, slice_index_or, if◌then◌else◌}
+use Rattle.std.specs.Prelude.{◌≡◌, ℕ, ◌<◌, ◌==◌, List, length, Option, None, Some, IsSome, slice_index_or, if◌then◌else◌}
+use Rattle.std.specs.Option.{option_map}
 use Rattle.kt_heap.specs.declared.object.Obj.{Obj}
 use Rattle.kt_heap.specs.declared.keyed.Entry.{Entry}
+use Rattle.kt_heap.specs.Objects.{shown}
 use Rattle.kt_heap.specs.Keys.{place_at, key_of}
 
 pub record Keyed : Type 0 where
@@ -34,3 +36,11 @@ IsPut old new a o = (b : ℕ) → obj_at new b ≡ (if b == a then o else obj_at
 -- what stands at a place of a key is an object with an address of that key
 abbrev pub IsKeyed : Keyed → Type 0
 IsKeyed h = (key place : ℕ) → place_at h.keys key ≡ Some place → (e : Entry) × (slice_index_or h.slots place None ≡ Some e) × (key_of e.address ≡ key)
+
+-- an address is that of the object at a key
+abbrev pub IsObjectAt : Keyed → ℕ → ℕ → Type 0
+IsObjectAt h key a = IsSome (option_map shown (obj_at h a)) × (key_of a ≡ key)
+
+-- each key has an object
+abbrev pub HaveObjects : Keyed → Type 0
+HaveObjects h = (key : ℕ) → key < length h.keys → (a : ℕ) × IsObjectAt h key a

@@ -1,10 +1,10 @@
 //! Heap objects by address.
-ghost use Rattle.std.specs.Prelude.{◌≡◌, ◌<◌, [], length, None, Some, IsOk, IfOk, OnOk, OnErr, IfErr};
+ghost use Rattle.std.specs.Prelude.{◌≡◌, ◌↔◌, ◌<◌, ℕ, [], length, None, Some, IsSome, IsOk, IfOk, OnOk, OnErr, IfErr};
 ghost use Rattle.std.specs.Option.{option_map, option_copied};
 ghost use Rattle.kt_mem.specs.Memory.{value_in};
 ghost use Rattle.kt_heap.specs.Objects.{shown, obj_with};
 ghost use Rattle.kt_heap.specs.Keys.{place_at, key_of, generation_of, AreAllUsed, IsKeyTaken};
-ghost use Rattle.kt_heap.specs.Keyed.{obj_of, obj_at, entry_at, IsPut};
+ghost use Rattle.kt_heap.specs.Keyed.{obj_of, obj_at, entry_at, IsPut, IsObjectAt, HaveObjects};
 
 use crate::keys::Keys;
 use crate::object::Obj;
@@ -53,7 +53,8 @@ impl Keyed {
 
     /// How many keys were made.
     pub fn keys(&self) -> u32
-        ensures { result ≡ length self.now.keys }
+        ensures count { result ≡ length self.now.keys }
+        ensures above { (a : ℕ) → IsSome (option_map shown (obj_at self.now a)) → key_of a < result }
     {
         self.keys.len()
     }
@@ -76,7 +77,7 @@ impl Keyed {
 
     /// The address of the object at a key.
     pub fn at_key(&self, key: u32) -> Option<u64>
-        ensures { result ≡ option_map (λ e. e.address) (entry_at self.now key) }
+        ensures { (a : ℕ) → (result ≡ Some a) ↔ IsObjectAt self.now key a }
     {
         match self.entry(key) {
             None => None,
@@ -93,6 +94,7 @@ impl Keyed {
         ensures free { IfOk result (λ a. place_at self.old.keys (key_of a) ≡ None) }
         ensures taken { IfOk result (λ a. IsKeyTaken self.old.keys self.new.keys (key_of a)) }
         ensures all_used { OnOk result (AreAllUsed self.old.keys → AreAllUsed self.new.keys) }
+        ensures objects { OnOk result (AreAllUsed self.old.keys → HaveObjects self.old) }
         ensures kept { OnErr result (self.new ≡ self.old) }
     {
         self.slab.reserve(1)?;
@@ -148,6 +150,7 @@ impl Keyed {
 fn store_in(entry: &mut Entry, a: u64, offset: u32, cell: Cell) -> Result<(), Trap>
     ensures written { OnOk result (entry.new ≡ record entry.old { obj = obj_with offset cell entry.old.obj }) }
     ensures own { OnOk result (entry.old.address ≡ a) }
+    ensures address { entry.new.address ≡ entry.old.address }
     ensures there { OnOk result (IsOk (value_in (option_map shown (obj_of a (Some entry.old))) offset cell.ty)) }
     ensures trap { IfErr result (λ t. value_in (option_map shown (obj_of a (Some entry.old))) offset cell.ty ≡ Err t) }
     ensures kept { OnErr result (entry.new ≡ entry.old) }

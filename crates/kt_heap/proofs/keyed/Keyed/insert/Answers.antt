@@ -5,6 +5,7 @@ use Rattle.kt_heap.specs.declared.keyed.Entry.{Entry}
 use Rattle.kt_heap.specs.Keys.{place_at, key_of, generation_of, IsKeyTaken}
 use Rattle.kt_heap.specs.Keyed.{Keyed, obj_at, IsPut}
 use Rattle.kt_heap.proofs.Inserts.{inserted_put, inserted_keyed, unused_at, stays_used}
+use Rattle.kt_heap.proofs.KeyedLaws.{all_have_objects}
 use Rattle.kt_heap.proofs.Addresses.{key_of_address, generation_of_address}
 use Rattle.kt_heap.proofs.keyed.Keyed.insert.Goals as goal
 
@@ -68,3 +69,7 @@ returns-clause-taken c =
 pub returns-clause-all_used : goal.returns-clause-all_used
 returns-clause-all_used c =
     rw (← c.self.view_is) (stays_used c.self.inside.keys c.insert.new.self c.in_ok-key.key c.vacant_key.result c.in_ok-key.ensures.used c.in_ok-key.ensures.taken)
+
+pub returns-clause-objects : goal.returns-clause-objects
+returns-clause-objects c =
+    rw (← c.self.view_is) (all_have_objects (record { slots = c.self.inside.slab.slots; keys = c.self.inside.keys }) c.self.invariant)
