@@ -1,7 +1,7 @@
 -- What stands at each key, and the objects by address, after a change at one key.
 use Rattle.std.proofs.Common.{◌≡◌, ◌≢◌, ℕ, ◌==◌, ◌+◌, ◌*◌, ◌/◌, ◌%◌, ◌<◌, Bool, true, false, cond, List, Option, None, Some, refl, sym, ◌∙◌, ap, subst, arith}
 use Rattle.std.specs.Prelude.{slice_index_or}
-use Rattle.std.proofs.lemmas.Nat.{div-mul-add, mod-mul-add}
+use Rattle.std.proofs.lemmas.Nat.{div-add-mod', div-mul-add, mod-mul-add}
 use Rattle.kt_heap.specs.declared.object.Obj.{Obj}
 use Rattle.kt_heap.specs.declared.keyed.Entry.{Entry}
 use Rattle.kt_heap.specs.Keys.{place_at, key_of, generation_of}
@@ -26,7 +26,7 @@ generation_of_address key generation h =
 
 -- an address is its key and its generation
 pub address_is : (a key generation : ℕ) → key_of a ≡ key → generation_of a ≡ generation → a ≡ key + 4294967296 * generation
-address_is a key generation k g = omega (arith, k, g)
+address_is a key generation k g = omega (arith, div-add-mod' a 4294967296, k, g)
 
 -- ---- one key changes
 

@@ -148,3 +148,15 @@ module _ (h : Keyed) (a place : ℕ) (e x : Entry) (keyed : IsKeyed h) (used : p
   pub stored_back : x ≡ e → ◌≡◌ {A = Keyed} (record { slots = slice_set h.slots place (Some x); keys = h.keys }) h
   stored_back is =
       ap (λ (y : Entry). record { slots = slice_set h.slots place (Some y); keys = h.keys }) is ∙ ap (λ (xs : List (Option Entry)). record { slots = xs; keys = h.keys }) (set_back h.slots place e was)
+
+-- ---- what is taken away
+
+-- the object at an address is that of what stands there
+pub own_of : (a : ℕ) (e : Entry) (o : Obj) → obj_of a (Some e) ≡ Some o → e.address ≡ a
+own_of a e o h =
+    by_test (λ t. cond t (Some e.obj) None ≡ Some o → e.address ≡ a) e.address a (λ same _. same) (λ _ lost. let never : ⊥ = cc in absurd never) h
+
+-- where nothing is at an address, it may be taken away
+pub nothing_taken : (h : Keyed) (a : ℕ) → obj_at h a ≡ None → IsPut h h a None
+nothing_taken h a none b =
+    by_test (λ t. obj_at h b ≡ cond t None (obj_at h b)) b a (λ same. ap (obj_at h) same ∙ none) (λ _. refl)

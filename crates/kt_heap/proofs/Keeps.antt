@@ -32,15 +32,28 @@ none_some x o a b = cc
 pair_is : (b n a k : ℕ) → ◌≡◌ {A = ℕ × ℕ} (a, k) (b, n) → (b ≡ a) × (n ≡ k)
 pair_is b n a k e = (sym (ap (λ (p : ℕ × ℕ). p.0) e), sym (ap (λ (p : ℕ × ℕ). p.1) e))
 
+-- a heap number, a count of live cells and the pairs, as the fields have them
+pub next_in : (s t : State) (P : ℕ → Type 0) → s ≡ t → P (memory t).next → P s.next
+unfolding memory
+next_in s t P e h = subst (λ (x : State). P x.next) (sym e) h
+
+pub live_in : (s t : State) (P : ℕ → Type 0) → s ≡ t → P (memory t).live → P s.used
+unfolding memory
+live_in s t P e h = subst (λ (x : State). P x.used) (sym e) h
+
+pub pairs_in : (s t : State) (P : List (ℕ × ℕ) → Type 0) → s ≡ t → P (given t) → P s.pairs
+unfolding given
+pairs_in s t P e h = subst (λ (x : State). P x.pairs) (sym e) h
+
 -- ---- one address more is given out
+
+-- an address of the next generation was not given out
+pub address_is_new : (s : State) (a : ℕ) → IsHeap s → generation_of a ≡ length s.pairs → IsNew s.pairs a
+address_is_new s a kept generation n p = let earlier = kept.generations a n p in omega (arith, earlier, generation)
 
 module _ (s : State) (h : Keyed) (next used a : ℕ) (o : Obj) (kept : IsHeap s) (put : IsPut s.objects h a (Some o)) (unused : obj_at s.objects a ≡ None) (generation : generation_of a ≡ length s.pairs) (free : place_at s.objects.keys (key_of a) ≡ None) (taken : IsKeyTaken s.objects.keys h.keys (key_of a)) (all_used : AreAllUsed s.objects.keys → AreAllUsed h.keys) (unpaired : (b : ℕ) → Paired s.pairs b o.serial → ⊥) (below : o.serial < next) (later : s.next ≤ next) (room : used ≤ 4194304) where
   after : State
   after = record s { objects = h; next = next; used = used; pairs = s.pairs ++ (a, o.serial) ∷ [] }
-
-  -- it is a new one
-  pub given_is_new : IsNew s.pairs a
-  given_is_new n p = let earlier = kept.generations a n p in omega (arith, earlier, generation)
 
   cases : (b n : ℕ) → Paired (s.pairs ++ (a, o.serial) ∷ []) b n → Paired s.pairs b n ⊎ ((b ≡ a) × (n ≡ o.serial))
   cases b n p =
@@ -50,7 +63,7 @@ module _ (s : State) (h : Keyed) (next used a : ℕ) (o : Obj) (kept : IsHeap s)
   old b n p = Contains-append_left s.pairs ((a, o.serial) ∷ []) (b, n) p
 
   not_new : (b n : ℕ) → Paired s.pairs b n → b ≡ a → ⊥
-  not_new b n p e = given_is_new n (subst (λ (x : ℕ). Paired s.pairs x n) e p)
+  not_new b n p e = address_is_new s a kept generation n (subst (λ (x : ℕ). Paired s.pairs x n) e p)
 
   no_number : (b n : ℕ) → Paired s.pairs b n → n ≡ o.serial → ⊥
   no_number b n p e = unpaired b (subst (λ (x : ℕ). Paired s.pairs b x) e p)

@@ -36,7 +36,7 @@ object_at_place h key place keyed at =
     let there = keyed key place at in
     let e = there.0 in
     let own = ap (place_at h.keys) there.2 ∙ at in
-    (e, ap (entry_in h.slots) at ∙ there.1, rw (obj_there h e.address place e own there.1 refl) refl, there.2)
+    (e, ap (entry_in h.slots) at ∙ there.1, (rw (obj_there h e.address place e own there.1 refl) refl, there.2))
 
 pub all_have_objects : (h : Keyed) → IsKeyed h → AreAllUsed h.keys → HaveObjects h
 all_have_objects h keyed used key within = by_place (place_at h.keys key) refl (used key within)

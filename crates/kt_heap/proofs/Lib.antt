@@ -7,3 +7,5 @@ pub mod Keeps
 pub mod NumbersKept
 pub mod Look
 pub mod Acts
+pub mod Stores
+pub mod Taking

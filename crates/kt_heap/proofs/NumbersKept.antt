@@ -107,3 +107,8 @@ numbers_stored s h a k c find numbers put b n =
     same : serial_of (obj_at h b) ≡ serial_of (obj_at s.objects b)
     same =
         by_test (λ _. serial_of (obj_at h b) ≡ serial_of (obj_at s.objects b)) b a (λ is. ap (λ (d : ℕ). serial_of (obj_at h d)) is ∙ ap serial_of (put_here s.objects h a (option_map (obj_with k c) (obj_at s.objects a)) put) ∙ with_cell (obj_at s.objects a) ∙ ap (λ (d : ℕ). serial_of (obj_at s.objects d)) (sym is)) (λ ne. ap serial_of (put_there s.objects h a (option_map (obj_with k c) (obj_at s.objects a)) put b ne))
+
+-- other entries in another order
+pub numbers_same : (s : State) (find found : ℕ → Option ℕ) → HasNumbers find s → ((n : ℕ) → found n ≡ find n) → HasNumbers found s
+numbers_same s find found numbers same a n =
+    (λ e. (numbers a n).0 (sym (same n) ∙ e), λ e. same n ∙ (numbers a n).1 e)
