@@ -83,11 +83,11 @@ module _ (s : State) (h : Keyed) (next used a : ℕ) (o : Obj) (kept : IsHeap s)
       ]
 
   numbers_below : (b n : ℕ) → Paired (s.pairs ++ (a, o.serial) ∷ []) b n → n < next
+  unfolding memory
   numbers_below b n p =
       elim (cases b n p) [ inl x ↦ lower (kept.pairing.below b n x) | inr x ↦ omega (arith, x.1, below) ]
     where
       lower : n < (memory s).next → n < next
-      unfolding memory
       lower h = omega (arith, h, later)
 
   live_paired : (b : ℕ) (x : Object) → (memory after).at (Heap b) ≡ Some x → Paired (s.pairs ++ (a, o.serial) ∷ []) b x.number

@@ -137,7 +137,8 @@ impl Keyed {
 
     /// What stands at a key.
     fn entry(&self, key: u32) -> Option<&Entry>
-        ensures { option_copied result ≡ entry_at self.now key }
+        ensures entry { option_copied result ≡ entry_at self.now key }
+        ensures own { (a : ℕ) → (option_map (λ e. e.address) (option_copied result) ≡ Some a) ↔ IsObjectAt self.now key a }
     {
         match self.keys.get(key) {
             None => None,
