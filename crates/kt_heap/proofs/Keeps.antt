@@ -114,7 +114,8 @@ module _ (s : State) (h : Keyed) (next used a : ℕ) (o : Obj) (kept : IsHeap s)
       full h = none_is_some (place_at s.objects.keys (key_of a)) free (f.1 (key_of a) h)
         where
           none_is_some : (x : Option ℕ) → x ≡ None → IsSome x → ⊥
-          none_is_some x e i = let lost : IsSome {A = ℕ} None = subst (λ (y : Option ℕ). IsSome y) e i in cc
+          none_is_some None e i = cc
+          none_is_some (Some y) e i = cc
 
       by_key : ((key_of a < length s.objects.keys) × (length h.keys ≡ length s.objects.keys)) ⊎ ((key_of a ≡ length s.objects.keys) × (length h.keys ≡ length s.objects.keys + 1) × AreAllUsed s.objects.keys) → IsFilled after ⊎ HasDead after
       by_key (inl t) = absurd (full t.0)

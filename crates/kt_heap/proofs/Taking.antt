@@ -15,7 +15,8 @@ takes_key s h a (inl t) objects = inl t
 takes_key s h a (inr t) objects = inr (t.0, t.1, objects t.2)
 
 none_is_some : {X : Type 0} (x : Option X) → x ≡ None → IsSome x → ⊥
-none_is_some {X} x e i = let lost : IsSome {A = X} None = subst (λ (y : Option X). IsSome y) e i in let never : ⊥ = cc in never
+none_is_some None e i = cc
+none_is_some (Some y) e i = cc
 
 -- in a heap from which nothing was released the key is the next one
 pub address_of_next : (s : State) (h : Keyed) (a : ℕ) → IsFilled s ⊎ HasDead s → generation_of a ≡ length s.pairs → place_at s.objects.keys (key_of a) ≡ None → IsKeyTaken s.objects.keys h.keys (key_of a) → AreAllLive s.pairs (memory s) → a ≡ place_address (length s.pairs)
