@@ -1,4 +1,5 @@
-use Rattle.std.proofs.Common.{sym, ap, subst}
+use Rattle.std.proofs.Common.{◌==◌, sym, ap, subst}
+use Rattle.std.specs.HashMap.{get}
 use Rattle.kt_heap.specs.Keyed.{Keyed}
 use Rattle.kt_heap.specs.Heap.{memory}
 use Rattle.kt_heap.specs.Inside.{state_of, IsHeap, HasNumbers}
@@ -17,7 +18,8 @@ pub invariant_of-self-in-Heap : goal.invariant_of-self-in-Heap
 invariant_of-self-in-Heap c =
     let s = state_of c.self.inside in
     let new = c.store-in-Heap.new.self in
-    ok_or_err _ c.store-in-Heap.result c.store-in-Heap.ensures.written c.store-in-Heap.ensures.kept (λ put. (keeps_stored s new c.in-Heap.a c.args.offset c.args.cell c.self.invariant.0 put c.store-in-Heap.ensures.keys, numbers_stored s new c.in-Heap.a c.args.offset c.args.cell _ c.self.invariant.1 put)) (λ same. subst (λ (h : Keyed). IsHeap (record s { objects = h }) × HasNumbers _ (record s { objects = h })) (sym same) c.self.invariant)
+    let find = get (λ n k. n == k) c.self.inside.numbers in
+    ok_or_err _ c.store-in-Heap.result c.store-in-Heap.ensures.written c.store-in-Heap.ensures.kept (λ put. (keeps_stored s new c.in-Heap.a c.args.offset c.args.cell c.self.invariant.0 put c.store-in-Heap.ensures.keys, numbers_stored s new c.in-Heap.a c.args.offset c.args.cell find c.self.invariant.1 put)) (λ same. subst (λ (h : Keyed). IsHeap (record s { objects = h }) × HasNumbers find (record s { objects = h })) (sym same) c.self.invariant)
 
 pub returns-in-Glob-clause-stored : goal.returns-in-Glob-clause-stored
 unfolding memory
