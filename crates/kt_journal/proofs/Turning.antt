@@ -1,6 +1,6 @@
 -- Lines of more than three words say no turns; forms and lines that end too early.
 use Rattle.std.proofs.Common.{◌≡◌, ℕ, ◌+◌, ◌<◌, ◌≤◌, Bool, true, false, List, [], ◌∷◌, length, get_or, drop, Bor, Option, Some, None, refl, ap, sym, ◌∙◌, ◌&&◌}
-use Rattle.std.specs.Prelude.{is_none}
+use Rattle.std.specs.Prelude.{is_some, not}
 use Rattle.std.proofs.lemmas.Bool.{false≢true}
 use Rattle.std.proofs.lemmas.List.{drop_more, drop_all}
 use Rattle.kt_journal.specs.declared.form.Part.{Part}
@@ -20,12 +20,12 @@ pub form_short : (form : List Part) (i : ℕ) (rest : Option (Bor (List ℕ))) (
 form_short form i rest d h ended =
     ap (λ r. is_of (form_of (drop i form)) (words_in r)) ended ∙ ap (λ l. is_of (form_of l) []) (drop_more form i d h)
 
-nothing-left : (rest : Option (Bor (List ℕ))) → is_of [] (words_in rest) ≡ is_none rest
+nothing-left : (rest : Option (Bor (List ℕ))) → is_of [] (words_in rest) ≡ not (is_some rest)
 nothing-left None = refl
 nothing-left (Some rest) = split-some rest.now
 
 -- the form has ended
-pub form_end : (form : List Part) (i : ℕ) (rest : Option (Bor (List ℕ))) → length form ≤ i → is_of (form_of (drop i form)) (words_in rest) ≡ is_none rest
+pub form_end : (form : List Part) (i : ℕ) (rest : Option (Bor (List ℕ))) → length form ≤ i → is_of (form_of (drop i form)) (words_in rest) ≡ not (is_some rest)
 form_end form i rest h = ap (λ l. is_of (form_of l) (words_in rest)) (drop_all i form h) ∙ nothing-left rest
 
 -- one word and one part more
