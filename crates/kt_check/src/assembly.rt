@@ -34,10 +34,21 @@ pub(crate) fn left_of(sofar: Sofar<'_>) -> Assembly
     ensures globals { result.globals ≡ sofar.entry.globals }
     ensures functions { result.functions ≡ sofar.entry.functions }
 {
+    let Sofar {
+        structs,
+        defined,
+        globals,
+        global_names,
+        routines,
+        heads,
+        functions,
+        ..
+    } = sofar;
+    drop((structs, global_names, routines, heads));
     Assembly {
-        defined: sofar.defined,
-        globals: sofar.globals,
-        functions: sofar.functions,
+        defined,
+        globals,
+        functions,
     }
 }
 

@@ -77,13 +77,26 @@ fn judged(alloc: Global, file: &File) -> Result<Version, CheckFault>
     ensures { Judges (λ v. v) result (typed_file (tree_of file.now)) }
 {
     let named = Named::of(alloc, file.items.as_slice())?;
-    let texts = Texts::of(alloc, file.items.as_slice())?;
+    let texts = match Texts::of(alloc, file.items.as_slice()) {
+        Ok(texts) => texts,
+        Err(_) => {
+            drop(named);
+            return Err(CheckFault::NoMemory);
+        }
+    };
     match typed_parts(alloc, file, &named, &texts) {
-        Ok(parts) => match version(alloc, file, &named, texts, parts) {
-            Ok(version) => Ok(version),
-            Err(_) => Err(CheckFault::NoMemory),
-        },
-        Err(fault) => Err(fault),
+        Ok(parts) => {
+            let made = version(alloc, file, &named, texts, parts);
+            drop(named);
+            match made {
+                Ok(version) => Ok(version),
+                Err(_) => Err(CheckFault::NoMemory),
+            }
+        }
+        Err(fault) => {
+            drop((named, texts));
+            Err(fault)
+        }
     }
 }
 

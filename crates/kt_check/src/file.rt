@@ -1,6 +1,6 @@
 //! The external declarations of a file, each in its turn (ISO/IEC 9899:2011, 6.9).
 
-ghost use Rattle.std.specs.Prelude.{◌≡◌, Ok, IfOk, map, if◌then◌else◌};
+ghost use Rattle.std.specs.Prelude.{◌≡◌, Ok, OnOk, map, if◌then◌else◌};
 ghost use Rattle.kt_names.specs.declared.fault.CheckFault.TheVariants.{NoMain};
 ghost use Rattle.kt_names.specs.Checked.{fault};
 ghost use Rattle.kt_syntax.specs.Tree.{external_of, routine_of};
@@ -18,18 +18,14 @@ use kt_names::fault::CheckFault;
 use kt_syntax::{Function, Item};
 
 /// An external declaration.
-fn external<'f>(
-    frame: &Frame<'_>,
-    sofar: Sofar<'f>,
-    item: &'f Item,
-) -> Result<Sofar<'f>, CheckFault>
-    requires keeps { Keeps (frame_seen frame.now).names sofar }
-    ensures sofar { Judges sofar_of result (external (frame_seen frame.now) (sofar_of sofar.entry) (external_of item.now)) }
-    ensures keeps { IfOk result (λ s. Keeps (frame_seen frame.now).names s) }
+fn external<'f>(frame: &Frame<'_>, sofar: &mut Sofar<'f>, item: &'f Item) -> Result<(), CheckFault>
+    requires keeps { Keeps (frame_seen frame.now).names sofar.old }
+    ensures sofar { Judges (λ _. sofar_of sofar.new) result (external (frame_seen frame.now) (sofar_of sofar.old) (external_of item.now)) }
+    ensures keeps { OnOk result (Keeps (frame_seen frame.now).names sofar.new) }
 {
     match item {
         Item::Struct(name, fields) => match fields {
-            None => Ok(sofar),
+            None => Ok(()),
             Some(fields) => structure(frame, sofar, name, fields.as_slice()),
         },
         Item::Globals(base, declarators) => globals(frame, sofar, base, declarators.as_slice()),
@@ -40,21 +36,20 @@ fn external<'f>(
 /// External declarations.
 fn externals<'f>(
     frame: &Frame<'_>,
-    sofar: Sofar<'f>,
+    sofar: &mut Sofar<'f>,
     items: &'f [Item],
-) -> Result<Sofar<'f>, CheckFault>
-    requires keeps { Keeps (frame_seen frame.now).names sofar }
-    ensures sofar { Judges sofar_of result (externals (frame_seen frame.now) (sofar_of sofar.entry) (map external_of items.now)) }
-    ensures keeps { IfOk result (λ s. Keeps (frame_seen frame.now).names s) }
+) -> Result<(), CheckFault>
+    requires keeps { Keeps (frame_seen frame.now).names sofar.old }
+    ensures sofar { Judges (λ _. sofar_of sofar.new) result (externals (frame_seen frame.now) (sofar_of sofar.old) (map external_of items.now)) }
+    ensures keeps { OnOk result (Keeps (frame_seen frame.now).names sofar.new) }
 {
-    let mut now = sofar;
     for item in items {
-        match external(frame, now, item) {
-            Ok(next) => now = next,
+        match external(frame, sofar, item) {
+            Ok(()) => (),
             Err(fault) => return Err(fault),
         }
     }
-    Ok(now)
+    Ok(())
 }
 
 /// A definition of `main` gives `int` and has no parameter.
@@ -86,6 +81,7 @@ fn with_main<'f>(frame: &Frame<'_>, sofar: Sofar<'f>, length: u32) -> Result<Sof
     if has_main(frame, &sofar.routines) {
         Ok(sofar)
     } else {
+        drop(sofar);
         Err(CheckFault::NoMain { at: length })
     }
 }
@@ -94,8 +90,12 @@ fn with_main<'f>(frame: &Frame<'_>, sofar: Sofar<'f>, length: u32) -> Result<Sof
 pub(crate) fn typed<'f>(frame: &Frame<'f>, length: u32) -> Result<Sofar<'f>, CheckFault>
     ensures { Judges sofar_of result (typed_from (frame_seen frame.now) length) }
 {
-    match externals(frame, Sofar::new(frame.alloc), frame.items) {
-        Ok(sofar) => with_main(frame, sofar, length),
-        Err(fault) => Err(fault),
+    let mut sofar = Sofar::new(frame.alloc);
+    match externals(frame, &mut sofar, frame.items) {
+        Ok(()) => with_main(frame, sofar, length),
+        Err(fault) => {
+            drop(sofar);
+            Err(fault)
+        }
     }
 }

@@ -66,10 +66,10 @@ fn function_info<'f>(
     ensures noted { IfOk result (λ i. i.noted ≡ is_noted (routine_of f.now).body) }
     ensures memory { IfErr result (λ f. f ≡ NoMemory) }
 {
+    let result = result_of(outside, f)?;
     let locals = locals_of(outside, f)?;
     let types = types_of(outside.alloc, locals.as_slice())?;
     let first = first_places(outside.alloc, locals.as_slice())?;
-    let result = result_of(outside, f)?;
     Ok(FunctionInfo {
         locals,
         types,
@@ -164,8 +164,16 @@ pub(crate) fn parameters(outside: &Environment<'_>, f: &Function) -> Result<Scop
     let body = info.body(outside);
     let mut scopes = Scopes::new(outside.alloc);
     match parameters_from(f.parameters.as_slice(), &body, &mut scopes) {
-        Ok(_) => Ok(scopes),
-        Err(fault) => Err(fault),
+        Ok(_) => {
+            drop(body);
+            drop(info);
+            Ok(scopes)
+        }
+        Err(fault) => {
+            drop(body);
+            drop((info, scopes));
+            Err(fault)
+        }
     }
 }
 

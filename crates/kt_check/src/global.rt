@@ -1,6 +1,6 @@
 //! Globals (ISO/IEC 9899:2011, 6.9.2).
 
-ghost use Rattle.std.specs.Prelude.{◌≡◌, ◌==◌, Ok, true, IfOk, map};
+ghost use Rattle.std.specs.Prelude.{◌≡◌, ◌==◌, Ok, true, OnOk, map};
 ghost use Rattle.std.specs.List.{list_any};
 ghost use Rattle.kt_names.specs.Uses.{stars_of};
 ghost use Rattle.kt_names.specs.Checked.{and_then};
@@ -155,64 +155,62 @@ fn global(
     global_decl(frame, sofar, base, g, init)
 }
 
-/// A global more.
-fn with_global<'f>(
+/// Adds a global.
+fn add_global(
     frame: &Frame<'_>,
-    sofar: Sofar<'f>,
+    sofar: &mut Sofar<'_>,
     base: &Base,
     g: &GlobalDeclarator,
     decl: GlobalDecl,
-) -> Result<Sofar<'f>, CheckFault>
-    requires keeps { Keeps (frame_seen frame.now).names sofar }
-    requires right { global (frame_seen frame.now) (sofar_of sofar) base.now g.now ≡ Ok decl }
-    ensures sofar { Judges sofar_of result (Ok (with_global (frame_seen frame.now) (sofar_of sofar.entry) base.now g.now decl)) }
-    ensures keeps { IfOk result (λ s. Keeps (frame_seen frame.now).names s) }
+) -> Result<(), CheckFault>
+    requires keeps { Keeps (frame_seen frame.now).names sofar.old }
+    requires right { global (frame_seen frame.now) (sofar_of sofar.old) base.now g.now ≡ Ok decl }
+    ensures sofar { Judges (λ _. sofar_of sofar.new) result (Ok (with_global (frame_seen frame.now) (sofar_of sofar.old) base.now g.now decl)) }
+    ensures keeps { OnOk result (Keeps (frame_seen frame.now).names sofar.new) }
 {
-    let mut now = sofar;
     let t = frame.declared_type(base, &g.declarator.pointer);
-    let cells = frame.cells_of(&now, t);
+    let cells = frame.cells_of(sofar, t);
+    sofar.cells += decl.count * cells;
+    sofar.globals.push(decl)?;
     let name = Vec::from_slice(frame.alloc, g.declarator.name.word.as_bytes())?;
-    now.global_names.insert(name)?;
-    now.cells += decl.count * cells;
-    now.globals.push(decl)?;
-    Ok(now)
+    sofar.global_names.insert(name)?;
+    Ok(())
 }
 
 /// A declarator of a global.
 #[tactic(auto, using(kt_names::proofs::Parts::parts))]
-fn declared<'f>(
+fn declared(
     frame: &Frame<'_>,
-    sofar: Sofar<'f>,
+    sofar: &mut Sofar<'_>,
     base: &Base,
     g: &GlobalDeclarator,
-) -> Result<Sofar<'f>, CheckFault>
-    requires keeps { Keeps (frame_seen frame.now).names sofar }
-    ensures sofar { Judges sofar_of result (and_then (global (frame_seen frame.now) (sofar_of sofar.entry) base.now g.now) (λ d. Ok (with_global (frame_seen frame.now) (sofar_of sofar.entry) base.now g.now d))) }
-    ensures keeps { IfOk result (λ s. Keeps (frame_seen frame.now).names s) }
+) -> Result<(), CheckFault>
+    requires keeps { Keeps (frame_seen frame.now).names sofar.old }
+    ensures sofar { Judges (λ _. sofar_of sofar.new) result (and_then (global (frame_seen frame.now) (sofar_of sofar.old) base.now g.now) (λ d. Ok (with_global (frame_seen frame.now) (sofar_of sofar.old) base.now g.now d))) }
+    ensures keeps { OnOk result (Keeps (frame_seen frame.now).names sofar.new) }
 {
-    let decl = global(frame, &sofar, base, g)?;
-    with_global(frame, sofar, base, g, decl)
+    let decl = global(frame, sofar, base, g)?;
+    add_global(frame, sofar, base, g, decl)
 }
 
 /// Declarators of globals of one base.
-fn globals_from<'f>(
+fn globals_from(
     frame: &Frame<'_>,
-    sofar: Sofar<'f>,
+    sofar: &mut Sofar<'_>,
     base: &Base,
     declarators: &[GlobalDeclarator],
-) -> Result<Sofar<'f>, CheckFault>
-    requires keeps { Keeps (frame_seen frame.now).names sofar }
-    ensures sofar { Judges sofar_of result (globals_from (frame_seen frame.now) (sofar_of sofar.entry) base.now declarators.now) }
-    ensures keeps { IfOk result (λ s. Keeps (frame_seen frame.now).names s) }
+) -> Result<(), CheckFault>
+    requires keeps { Keeps (frame_seen frame.now).names sofar.old }
+    ensures sofar { Judges (λ _. sofar_of sofar.new) result (globals_from (frame_seen frame.now) (sofar_of sofar.old) base.now declarators.now) }
+    ensures keeps { OnOk result (Keeps (frame_seen frame.now).names sofar.new) }
 {
-    let mut now = sofar;
     for declarator in declarators {
-        match declared(frame, now, base, declarator) {
-            Ok(next) => now = next,
+        match declared(frame, sofar, base, declarator) {
+            Ok(()) => (),
             Err(fault) => return Err(fault),
         }
     }
-    Ok(now)
+    Ok(())
 }
 
 /// Whether one of these has no star.
@@ -229,17 +227,17 @@ fn has_plain(declarators: &[GlobalDeclarator]) -> bool
 
 /// Globals of one base.
 #[tactic(auto, using(kt_names::proofs::Parts::parts))]
-pub(crate) fn globals<'f>(
+pub(crate) fn globals(
     frame: &Frame<'_>,
-    sofar: Sofar<'f>,
+    sofar: &mut Sofar<'_>,
     base: &Base,
     declarators: &[GlobalDeclarator],
-) -> Result<Sofar<'f>, CheckFault>
-    requires keeps { Keeps (frame_seen frame.now).names sofar }
-    ensures sofar { Judges sofar_of result (globals (frame_seen frame.now) (sofar_of sofar.entry) base.now declarators.now) }
-    ensures keeps { IfOk result (λ s. Keeps (frame_seen frame.now).names s) }
+) -> Result<(), CheckFault>
+    requires keeps { Keeps (frame_seen frame.now).names sofar.old }
+    ensures sofar { Judges (λ _. sofar_of sofar.new) result (globals (frame_seen frame.now) (sofar_of sofar.old) base.now declarators.now) }
+    ensures keeps { OnOk result (Keeps (frame_seen frame.now).names sofar.new) }
 {
-    match base_for(frame, &sofar, base, has_plain(declarators)) {
+    match base_for(frame, sofar, base, has_plain(declarators)) {
         Ok(()) => globals_from(frame, sofar, base, declarators),
         Err(fault) => Err(fault),
     }

@@ -1,6 +1,6 @@
 //! Functions, as a file declares them (ISO/IEC 9899:2011, 6.9.1).
 
-ghost use Rattle.std.specs.Prelude.{◌≡◌, ◌==◌, ◌||◌, ◌++◌, not, Ok, Some, IfOk, OnOk, IfErr, ℕ, List, map, if◌then◌else◌};
+ghost use Rattle.std.specs.Prelude.{◌≡◌, ◌==◌, ◌||◌, ◌++◌, not, Ok, Some, OnOk, IfErr, ℕ, List, map, if◌then◌else◌};
 ghost use Rattle.kt_syntax.specs.Tree.{routine_of};
 ghost use Rattle.kt_tree.specs.Tree.{function_of};
 ghost use Rattle.std.specs.Option.{is_some};
@@ -280,82 +280,73 @@ fn head_with<'f>(head: Option<Head<'f>>, f: &'f Function) -> Head<'f>
     }
 }
 
-/// The first declarations of functions, with that of this name.
-fn with_head<'f>(
+/// Puts the first declaration of a function under its name.
+fn put_head<'f>(
+    heads: &mut IndexMap<Vec<u8>, Head<'f>>,
     alloc: Global,
-    heads: IndexMap<Vec<u8>, Head<'f>>,
     name: &[u8],
     head: Head<'f>,
-) -> Result<IndexMap<Vec<u8>, Head<'f>>, CheckFault>
-    ensures heads { IfOk result (λ m. (n : List ℕ) → lookup (λ k. bytes_eq n k.items) m.entries ≡ (if bytes_eq n name.now then Some head.entry else lookup (λ k. bytes_eq n k.items) heads.entry.entries)) }
+) -> Result<(), CheckFault>
+    ensures heads { OnOk result ((n : List ℕ) → lookup (λ k. bytes_eq n k.items) heads.new.entries ≡ (if bytes_eq n name.now then Some head.entry else lookup (λ k. bytes_eq n k.items) heads.old.entries)) }
     ensures memory { IfErr result (λ f. f ≡ NoMemory) }
 {
-    let mut heads = heads;
     let name = Vec::from_slice(alloc, name)?;
     heads.insert(name, head)?;
-    Ok(heads)
+    Ok(())
 }
 
-/// A declaration more.
-fn with_routine<'f>(
+/// Adds a declaration.
+fn add_routine<'f>(
     frame: &Frame<'_>,
-    sofar: Sofar<'f>,
+    sofar: &mut Sofar<'f>,
     f: &'f Function,
-) -> Result<Sofar<'f>, CheckFault>
-    requires keeps { Keeps (frame_seen frame.now).names sofar }
-    requires agrees { agrees (frame_seen frame.now).names (routine_of f.now) (sofar_of sofar).routines ≡ Ok tt }
-    ensures sofar { Judges sofar_of result (Ok (with_routine (sofar_of sofar.entry) (routine_of f.now))) }
-    ensures keeps { IfOk result (λ s. Keeps (frame_seen frame.now).names s) }
+) -> Result<(), CheckFault>
+    requires keeps { Keeps (frame_seen frame.now).names sofar.old }
+    requires agrees { agrees (frame_seen frame.now).names (routine_of f.now) (sofar_of sofar.old).routines ≡ Ok tt }
+    ensures sofar { Judges (λ _. sofar_of sofar.new) result (Ok (with_routine (sofar_of sofar.old) (routine_of f.now))) }
+    ensures keeps { OnOk result (Keeps (frame_seen frame.now).names sofar.new) }
 {
-    let mut now = sofar;
     let name = f.name.word.as_bytes();
-    let head = head_with(now.head(name), f);
-    now.heads = with_head(frame.alloc, now.heads, name, head)?;
-    now.routines.push(f)?;
-    Ok(now)
+    let head = head_with(sofar.head(name), f);
+    put_head(&mut sofar.heads, frame.alloc, name, head)?;
+    sofar.routines.push(f)?;
+    Ok(())
 }
 
-/// These functions, and one that is defined, where there is one.
-fn with_defined(functions: Vec<Fun>, fun: Option<Fun>) -> Result<Vec<Fun>, CheckFault>
-    ensures functions { IfOk result (λ v. map function_of v.items ≡ map function_of functions.items ++ functions_seen fun) }
+/// Adds a function that is defined, where there is one.
+fn push_defined(functions: &mut Vec<Fun>, fun: Option<Fun>) -> Result<(), CheckFault>
+    ensures functions { OnOk result (map function_of functions.new.items ≡ map function_of functions.old.items ++ functions_seen fun) }
     ensures memory { IfErr result (λ f. f ≡ NoMemory) }
 {
-    let mut functions = functions;
     if let Some(fun) = fun {
         functions.push(fun)?;
     }
-    Ok(functions)
+    Ok(())
 }
 
-/// A definition more, where there is one.
-fn with_body<'f>(
-    frame: &Frame<'_>,
-    sofar: Sofar<'f>,
-    fun: Option<Fun>,
-) -> Result<Sofar<'f>, CheckFault>
-    requires keeps { Keeps (frame_seen frame.now).names sofar }
-    ensures sofar { Judges sofar_of result (Ok (with_bodies (sofar_of sofar.entry) (functions_seen fun))) }
-    ensures keeps { IfOk result (λ s. Keeps (frame_seen frame.now).names s) }
+/// Adds a definition, where there is one.
+fn add_body(frame: &Frame<'_>, sofar: &mut Sofar<'_>, fun: Option<Fun>) -> Result<(), CheckFault>
+    requires keeps { Keeps (frame_seen frame.now).names sofar.old }
+    ensures sofar { Judges (λ _. sofar_of sofar.new) result (Ok (with_bodies (sofar_of sofar.old) (functions_seen fun))) }
+    ensures keeps { OnOk result (Keeps (frame_seen frame.now).names sofar.new) }
 {
-    let mut now = sofar;
-    now.functions = with_defined(now.functions, fun)?;
-    Ok(now)
+    push_defined(&mut sofar.functions, fun)
 }
 
-/// A function more.
-fn with_function<'f>(
+/// Adds a function.
+fn add_function<'f>(
     frame: &Frame<'_>,
-    sofar: Sofar<'f>,
+    sofar: &mut Sofar<'f>,
     f: &'f Function,
     fun: Option<Fun>,
-) -> Result<Sofar<'f>, CheckFault>
-    requires keeps { Keeps (frame_seen frame.now).names sofar }
-    requires agrees { agrees (frame_seen frame.now).names (routine_of f.now) (sofar_of sofar).routines ≡ Ok tt }
-    ensures sofar { Judges sofar_of result (Ok (with_bodies (with_routine (sofar_of sofar.entry) (routine_of f.now)) (functions_seen fun))) }
-    ensures keeps { IfOk result (λ s. Keeps (frame_seen frame.now).names s) }
+) -> Result<(), CheckFault>
+    requires keeps { Keeps (frame_seen frame.now).names sofar.old }
+    requires agrees { agrees (frame_seen frame.now).names (routine_of f.now) (sofar_of sofar.old).routines ≡ Ok tt }
+    ensures sofar { Judges (λ _. sofar_of sofar.new) result (Ok (with_bodies (with_routine (sofar_of sofar.old) (routine_of f.now)) (functions_seen fun))) }
+    ensures keeps { OnOk result (Keeps (frame_seen frame.now).names sofar.new) }
 {
-    match with_routine(frame, sofar, f) {
-        Ok(next) => with_body(frame, next, fun),
+    match add_routine(frame, sofar, f) {
+        Ok(()) => add_body(frame, sofar, fun),
         Err(fault) => {
             drop(fun);
             Err(fault)
@@ -366,15 +357,15 @@ fn with_function<'f>(
 /// A declaration of a function.
 pub(crate) fn function<'f>(
     frame: &Frame<'_>,
-    sofar: Sofar<'f>,
+    sofar: &mut Sofar<'f>,
     f: &'f Function,
-) -> Result<Sofar<'f>, CheckFault>
-    requires keeps { Keeps (frame_seen frame.now).names sofar }
-    ensures sofar { Judges sofar_of result (function (frame_seen frame.now) (sofar_of sofar.entry) (routine_of f.now)) }
-    ensures keeps { IfOk result (λ s. Keeps (frame_seen frame.now).names s) }
+) -> Result<(), CheckFault>
+    requires keeps { Keeps (frame_seen frame.now).names sofar.old }
+    ensures sofar { Judges (λ _. sofar_of sofar.new) result (function (frame_seen frame.now) (sofar_of sofar.old) (routine_of f.now)) }
+    ensures keeps { OnOk result (Keeps (frame_seen frame.now).names sofar.new) }
 {
-    match function_of(frame, &sofar, f) {
-        Ok(fun) => with_function(frame, sofar, f, fun),
+    match function_of(frame, sofar, f) {
+        Ok(fun) => add_function(frame, sofar, f, fun),
         Err(fault) => Err(fault),
     }
 }

@@ -1,6 +1,6 @@
 //! Structs (ISO/IEC 9899:2011, 6.7.2.1).
 
-ghost use Rattle.std.specs.Prelude.{◌≡◌, Ok, IfOk};
+ghost use Rattle.std.specs.Prelude.{◌≡◌, Ok, IfOk, OnOk};
 ghost use Rattle.std.specs.Option.{is_some};
 ghost use Rattle.kt_names.specs.Judges.{Judges};
 ghost use Rattle.kt_names.specs.Environment.{struct_numbered};
@@ -38,7 +38,14 @@ fn fields_of(frame: &Frame<'_>, sofar: &Sofar<'_>, groups: &[Fields]) -> Result<
         fields: &fields,
         counts: &counts,
     };
-    fields_from(frame, sofar, shape, Within::new(frame.alloc), groups)
+    let mut within = Within::new(frame.alloc);
+    match fields_from(frame, sofar, shape, &mut within, groups) {
+        Ok(()) => Ok(within),
+        Err(fault) => {
+            drop(within);
+            Err(fault)
+        }
+    }
 }
 
 /// A struct is defined once, and its fields.
@@ -57,50 +64,50 @@ fn struct_parts(
     both(once, fields_of(frame, sofar, groups))
 }
 
-/// A struct more.
-fn with_struct<'f>(
+/// Adds a struct.
+fn add_struct(
     frame: &Frame<'_>,
-    sofar: Sofar<'f>,
+    sofar: &mut Sofar<'_>,
     name: &Name,
     groups: &[Fields],
     within: Within,
-) -> Result<Sofar<'f>, CheckFault>
-    requires keeps { Keeps (frame_seen frame.now).names sofar }
-    requires right { struct_parts (frame_seen frame.now) (sofar_of sofar) name.now groups.now ≡ Ok (tt, within_of within) }
+) -> Result<(), CheckFault>
+    requires keeps { Keeps (frame_seen frame.now).names sofar.old }
+    requires right { struct_parts (frame_seen frame.now) (sofar_of sofar.old) name.now groups.now ≡ Ok (tt, within_of within) }
     requires holds { Holds (frame_seen frame.now) (fields_in groups.now) within }
-    ensures sofar { Judges sofar_of result (Ok (with_struct (frame_seen frame.now) (sofar_of sofar.entry) name.now (fields_in groups.now) within.cells)) }
-    ensures keeps { IfOk result (λ s. Keeps (frame_seen frame.now).names s) }
+    ensures sofar { Judges (λ _. sofar_of sofar.new) result (Ok (with_struct (frame_seen frame.now) (sofar_of sofar.old) name.now (fields_in groups.now) within.cells)) }
+    ensures keeps { OnOk result (Keeps (frame_seen frame.now).names sofar.new) }
 {
     if within.infos.len() > u32::MAX as usize {
+        drop(within);
         return Err(CheckFault::NoMemory);
     }
-    let mut now = sofar;
     let number = frame.number_of_struct(name.word.as_bytes());
     let info = StructInfo {
         fields: within.infos,
         cells: within.cells,
     };
-    now.structs.insert(number, info)?;
-    now.defined.push(Defined {
+    drop(sofar.structs.insert(number, info)?);
+    sofar.defined.push(Defined {
         number,
         fields: within.decls,
     })?;
-    Ok(now)
+    Ok(())
 }
 
 /// A definition of a struct.
-pub(crate) fn structure<'f>(
+pub(crate) fn structure(
     frame: &Frame<'_>,
-    sofar: Sofar<'f>,
+    sofar: &mut Sofar<'_>,
     name: &Name,
     groups: &[Fields],
-) -> Result<Sofar<'f>, CheckFault>
-    requires keeps { Keeps (frame_seen frame.now).names sofar }
-    ensures sofar { Judges sofar_of result (struct (frame_seen frame.now) (sofar_of sofar.entry) name.now groups.now) }
-    ensures keeps { IfOk result (λ s. Keeps (frame_seen frame.now).names s) }
+) -> Result<(), CheckFault>
+    requires keeps { Keeps (frame_seen frame.now).names sofar.old }
+    ensures sofar { Judges (λ _. sofar_of sofar.new) result (struct (frame_seen frame.now) (sofar_of sofar.old) name.now groups.now) }
+    ensures keeps { OnOk result (Keeps (frame_seen frame.now).names sofar.new) }
 {
-    match struct_parts(frame, &sofar, name, groups) {
-        Ok(parts) => with_struct(frame, sofar, name, groups, parts.1),
+    match struct_parts(frame, sofar, name, groups) {
+        Ok(parts) => add_struct(frame, sofar, name, groups, parts.1),
         Err(fault) => Err(fault),
     }
 }

@@ -81,6 +81,28 @@ fn define(table: &mut TypeTable, types: &[Ty], defined: &Defined) -> Result<(), 
     }
 }
 
+/// Fills the table of the scalar types with these types in their order, these structs, and their definitions in order.
+fn fill(
+    table: &mut TypeTable,
+    names: &IndexSet<Vec<u8>>,
+    types: &Types,
+    defined: &[Defined],
+) -> Result<(), AllocError>
+    requires scalars { table.old ≡ with_structs [] }
+    requires distinct { AreDistinct (map (λ n. n.items) names.now.keys) }
+    requires begins { take 4 types.now.types.keys ≡ scalars }
+    requires fit { CanBuild types.now.types.keys (map (λ n. n.items) names.now.keys) 4 [] (map definition_seen defined.now) }
+    ensures { OnOk result (table.new ≡ built types.now.types.keys (map (λ n. n.items) names.now.keys) (map definition_seen defined.now)) }
+{
+    declare(table, names.as_slice())?;
+    let all = types.types.as_slice();
+    for one in defined {
+        define(table, all, one)?;
+    }
+    intern(table, all, all.len())?;
+    Ok(())
+}
+
 /// The table of these types in their order, of these structs, and of their definitions in order.
 pub(crate) fn table(
     alloc: Global,
@@ -94,11 +116,11 @@ pub(crate) fn table(
     ensures { IfOk result (λ t. t ≡ built types.now.types.keys (map (λ n. n.items) names.now.keys) (map definition_seen defined.now)) }
 {
     let mut table = TypeTable::new(alloc)?;
-    declare(&mut table, names.as_slice())?;
-    let all = types.types.as_slice();
-    for one in defined {
-        define(&mut table, all, one)?;
+    match fill(&mut table, names, types, defined) {
+        Ok(()) => Ok(table),
+        Err(e) => {
+            drop(table);
+            Err(e)
+        }
     }
-    intern(&mut table, all, all.len())?;
-    Ok(table)
 }

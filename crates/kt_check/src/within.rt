@@ -1,6 +1,6 @@
 //! The fields of a struct, one after the other (ISO/IEC 9899:2011, 6.7.2.1).
 
-ghost use Rattle.std.specs.Prelude.{◌≡◌, ◌==◌, Ok, IfOk, map, [], ◌∷◌};
+ghost use Rattle.std.specs.Prelude.{◌≡◌, ◌==◌, Ok, OnOk, map, [], ◌∷◌};
 ghost use Rattle.std.specs.List.{list_any};
 ghost use Rattle.std.specs.Map.{lookup};
 ghost use Rattle.std.specs.Str.{bytes_eq};
@@ -91,28 +91,27 @@ fn field_parts(
     both(inside, size_parts(frame, sofar, within, x))
 }
 
-/// A field more, which was judged.
-fn with_field(
+/// Adds a field, which was judged.
+fn add_field(
     frame: &Frame<'_>,
     sofar: &Sofar<'_>,
     shape: Shape<'_>,
-    within: Within,
+    within: &mut Within,
     x: OneField<'_>,
-) -> Result<Within, CheckFault>
+) -> Result<(), CheckFault>
     requires counts { Counts shape }
-    requires right { field_parts (frame_seen frame.now) (sofar_of sofar.now) (shape_fields shape) (within_of within) (one_field x) ≡ Ok (tt, (tt, tt)) }
-    ensures within { Judges within_of result (Ok (with_field (frame_seen frame.now) (sofar_of sofar.now) (within_of within) (one_field x.entry))) }
-    ensures grows { IfOk result (λ w. Grows (frame_seen frame.now) (shape_fields shape.entry) within w (one_field x.entry ∷ [])) }
+    requires right { field_parts (frame_seen frame.now) (sofar_of sofar.now) (shape_fields shape) (within_of within.old) (one_field x) ≡ Ok (tt, (tt, tt)) }
+    ensures within { Judges (λ _. within_of within.new) result (Ok (with_field (frame_seen frame.now) (sofar_of sofar.now) (within_of within.old) (one_field x.entry))) }
+    ensures grows { OnOk result (Grows (frame_seen frame.now) (shape_fields shape.entry) within.old within.new (one_field x.entry ∷ [])) }
 {
-    let mut now = within;
     let t = frame.declared_type(x.base, &x.declarator.pointer);
     let cells = elements(&x.declarator.count) * frame.cells_of(sofar, t);
+    within.cells += cells;
     let decl = field_decl(frame, &frame.outside(sofar), shape, x)?;
+    within.decls.push(decl)?;
     let name = Vec::from_slice(frame.alloc, x.declarator.name.word.as_bytes())?;
-    now.infos.insert(name, field_info(frame, x))?;
-    now.decls.push(decl)?;
-    now.cells += cells;
-    Ok(now)
+    within.infos.insert(name, field_info(frame, x))?;
+    Ok(())
 }
 
 /// A field behind those so far.
@@ -120,15 +119,15 @@ fn field(
     frame: &Frame<'_>,
     sofar: &Sofar<'_>,
     shape: Shape<'_>,
-    within: Within,
+    within: &mut Within,
     x: OneField<'_>,
-) -> Result<Within, CheckFault>
+) -> Result<(), CheckFault>
     requires { Counts shape }
-    ensures within { Judges within_of result (field (frame_seen frame.now) (sofar_of sofar.now) (shape_fields shape.entry) (within_of within) (one_field x.entry)) }
-    ensures grows { IfOk result (λ w. Grows (frame_seen frame.now) (shape_fields shape.entry) within w (one_field x.entry ∷ [])) }
+    ensures within { Judges (λ _. within_of within.new) result (field (frame_seen frame.now) (sofar_of sofar.now) (shape_fields shape.entry) (within_of within.old) (one_field x.entry)) }
+    ensures grows { OnOk result (Grows (frame_seen frame.now) (shape_fields shape.entry) within.old within.new (one_field x.entry ∷ [])) }
 {
-    match field_parts(frame, sofar, shape, &within, x) {
-        Ok(_) => with_field(frame, sofar, shape, within, x),
+    match field_parts(frame, sofar, shape, within, x) {
+        Ok(_) => add_field(frame, sofar, shape, within, x),
         Err(fault) => Err(fault),
     }
 }
@@ -139,21 +138,20 @@ fn fields_with(
     sofar: &Sofar<'_>,
     shape: Shape<'_>,
     base: &Base,
-    within: Within,
+    within: &mut Within,
     declarators: &[Declarator],
-) -> Result<Within, CheckFault>
+) -> Result<(), CheckFault>
     requires { Counts shape }
-    ensures within { Judges within_of result (fields_with (frame_seen frame.now) (sofar_of sofar.now) (shape_fields shape.entry) base.now (within_of within) declarators.now) }
-    ensures grows { IfOk result (λ w. Grows (frame_seen frame.now) (shape_fields shape.entry) within w (map (λ d. record { base = base.now; declarator = d }) declarators.now)) }
+    ensures within { Judges (λ _. within_of within.new) result (fields_with (frame_seen frame.now) (sofar_of sofar.now) (shape_fields shape.entry) base.now (within_of within.old) declarators.now) }
+    ensures grows { OnOk result (Grows (frame_seen frame.now) (shape_fields shape.entry) within.old within.new (map (λ d. record { base = base.now; declarator = d }) declarators.now)) }
 {
-    let mut now = within;
     for declarator in declarators {
-        match field(frame, sofar, shape, now, OneField { base, declarator }) {
-            Ok(next) => now = next,
+        match field(frame, sofar, shape, within, OneField { base, declarator }) {
+            Ok(()) => (),
             Err(fault) => return Err(fault),
         }
     }
-    Ok(now)
+    Ok(())
 }
 
 /// Whether one of these has no star.
@@ -173,12 +171,12 @@ fn fields_of_base(
     frame: &Frame<'_>,
     sofar: &Sofar<'_>,
     shape: Shape<'_>,
-    within: Within,
+    within: &mut Within,
     group: &Fields,
-) -> Result<Within, CheckFault>
+) -> Result<(), CheckFault>
     requires { Counts shape }
-    ensures within { Judges within_of result (fields_of_base (frame_seen frame.now) (sofar_of sofar.now) (shape_fields shape.entry) (within_of within) group.now) }
-    ensures grows { IfOk result (λ w. Grows (frame_seen frame.now) (shape_fields shape.entry) within w (map (λ d. record { base = group.now.base; declarator = d }) group.now.declarators)) }
+    ensures within { Judges (λ _. within_of within.new) result (fields_of_base (frame_seen frame.now) (sofar_of sofar.now) (shape_fields shape.entry) (within_of within.old) group.now) }
+    ensures grows { OnOk result (Grows (frame_seen frame.now) (shape_fields shape.entry) within.old within.new (map (λ d. record { base = group.now.base; declarator = d }) group.now.declarators)) }
 {
     let declarators = group.declarators.as_slice();
     match base_for(frame, sofar, &group.base, has_plain(declarators)) {
@@ -192,19 +190,18 @@ pub(crate) fn fields_from(
     frame: &Frame<'_>,
     sofar: &Sofar<'_>,
     shape: Shape<'_>,
-    within: Within,
+    within: &mut Within,
     groups: &[Fields],
-) -> Result<Within, CheckFault>
+) -> Result<(), CheckFault>
     requires { Counts shape }
-    ensures within { Judges within_of result (fields_from (frame_seen frame.now) (sofar_of sofar.now) (shape_fields shape.entry) (within_of within) groups.now) }
-    ensures grows { IfOk result (λ w. Grows (frame_seen frame.now) (shape_fields shape.entry) within w (fields_in groups.now)) }
+    ensures within { Judges (λ _. within_of within.new) result (fields_from (frame_seen frame.now) (sofar_of sofar.now) (shape_fields shape.entry) (within_of within.old) groups.now) }
+    ensures grows { OnOk result (Grows (frame_seen frame.now) (shape_fields shape.entry) within.old within.new (fields_in groups.now)) }
 {
-    let mut now = within;
     for group in groups {
-        match fields_of_base(frame, sofar, shape, now, group) {
-            Ok(next) => now = next,
+        match fields_of_base(frame, sofar, shape, within, group) {
+            Ok(()) => (),
             Err(fault) => return Err(fault),
         }
     }
-    Ok(now)
+    Ok(())
 }

@@ -14,17 +14,17 @@ use Rattle.kt_check.proofs.global.globals.Goals as goal
 pub returns-in-Ok-clause-sofar : goal.returns-in-Ok-clause-sofar
 returns-in-Ok-clause-sofar c =
     let f = frame_seen c.args.frame.now in
-    let s = sofar_of c.args.sofar in
+    let s = sofar_of c.args.sofar.now in
     let b = c.args.base.now in
     let gs = c.args.declarators.now in
-    judges-follows sofar_of c.globals_from.result (base_for (outside f s) b (map (λ g. stars_of g.declarator.pointer) gs)) (λ x. globals_from f s b gs) tt
+    judges-follows (λ _. sofar_of c.globals_from.new.sofar) c.globals_from.result (base_for (outside f s) b (map (λ g. stars_of g.declarator.pointer) gs)) (λ x. globals_from f s b gs) tt
     (subst (λ p. holds (not p || is_complete (outside f s) (ctype f.names b 0)) (Incomplete (struct_place b)) ≡ Ok tt) c.has_plain.ensures c.in-Ok.ensures)
     c.globals_from.ensures.sofar
 
 pub returns-clause-sofar : goal.returns-clause-sofar
 returns-clause-sofar c =
     let f = frame_seen c.args.frame.now in
-    let s = sofar_of c.args.sofar in
+    let s = sofar_of c.args.sofar.now in
     let b = c.args.base.now in
     let gs = c.args.declarators.now in
     fails (base_for (outside f s) b (map (λ g. stars_of g.declarator.pointer) gs)) (λ x. globals_from f s b gs) c.in-Err.fault

@@ -5,5 +5,5 @@ use Rattle.kt_check.proofs.global.globals_from.Given as goal
 
 abbrev pub invariant-loop-declarator : goal.invariant-loop-declarator
 invariant-loop-declarator l =
-    Keeps (frame_seen l.frame).names l.now
-    × (globals_from (frame_seen l.frame) (sofar_of l.fn.sofar) l.base l.declarators ≡ globals_from (frame_seen l.frame) (sofar_of l.now) l.base (drop l.declarator-index l.declarators))
+    Keeps (frame_seen l.frame).names l.sofar
+    × (globals_from (frame_seen l.frame) (sofar_of l.fn.sofar) l.base l.declarators ≡ globals_from (frame_seen l.frame) (sofar_of l.sofar) l.base (drop l.declarator-index l.declarators))

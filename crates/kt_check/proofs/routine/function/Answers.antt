@@ -10,14 +10,14 @@ use Rattle.kt_check.proofs.routine.function.Goals as goal
 pub returns-in-Ok-clause-sofar : goal.returns-in-Ok-clause-sofar
 returns-in-Ok-clause-sofar c =
     let f = frame_seen c.args.frame.now in
-    let s = sofar_of c.args.sofar in
+    let s = sofar_of c.args.sofar.now in
     let r = routine_of c.args.f.now in
-    subst (Judges sofar_of c.with_function.result) (sym (function-is f s r))
-    (judges-follows sofar_of c.with_function.result (function_body_of f s r) (λ d. Ok (with_bodies (with_routine s r) d)) (functions_seen c.in-Ok.fun) c.in-Ok.ensures.body c.with_function.ensures.sofar)
+    subst (Judges (λ _. sofar_of c.add_function.new.sofar) c.add_function.result) (sym (function-is f s r))
+    (judges-follows (λ _. sofar_of c.add_function.new.sofar) c.add_function.result (function_body_of f s r) (λ d. Ok (with_bodies (with_routine s r) d)) (functions_seen c.in-Ok.fun) c.in-Ok.ensures.body c.add_function.ensures.sofar)
 
 pub returns-clause-sofar : goal.returns-clause-sofar
 returns-clause-sofar c =
     let f = frame_seen c.args.frame.now in
-    let s = sofar_of c.args.sofar in
+    let s = sofar_of c.args.sofar.now in
     let r = routine_of c.args.f.now in
     fails-as _ _ c.in-Err.fault (function-is f s r) (fails (function_body_of f s r) (λ d. Ok (with_bodies (with_routine s r) d)) c.in-Err.fault c.in-Err.ensures.body)

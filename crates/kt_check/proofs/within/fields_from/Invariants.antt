@@ -6,5 +6,5 @@ use Rattle.kt_check.proofs.within.fields_from.Given as goal
 
 abbrev pub invariant-loop-group : goal.invariant-loop-group
 invariant-loop-group l =
-    Grows (frame_seen l.frame) (shape_fields l.shape) l.fn.within l.now (fields_in (take l.group-index l.groups))
-    × (fields_from (frame_seen l.frame) (sofar_of l.sofar) (shape_fields l.shape) (within_of l.fn.within) l.groups ≡ fields_from (frame_seen l.frame) (sofar_of l.sofar) (shape_fields l.shape) (within_of l.now) (drop l.group-index l.groups))
+    Grows (frame_seen l.frame) (shape_fields l.shape) l.fn.within l.within (fields_in (take l.group-index l.groups))
+    × (fields_from (frame_seen l.frame) (sofar_of l.sofar) (shape_fields l.shape) (within_of l.fn.within) l.groups ≡ fields_from (frame_seen l.frame) (sofar_of l.sofar) (shape_fields l.shape) (within_of l.within) (drop l.group-index l.groups))

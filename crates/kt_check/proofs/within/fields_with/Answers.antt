@@ -13,13 +13,13 @@ loop-declarator-preserved c =
     let s = sofar_of c.args.sofar.now in
     let fields = shape_fields c.args.shape in
     let b = c.args.base.now in
-    let w = within_of c.loop-declarator.now in
+    let w = within_of c.loop-declarator.within in
     let d = c.declarator-item.result in
     let ds = c.args.declarators.now in
     let i = c.loop-declarator.declarator-index in
     let rest = drop (i + 1) ds in (
-      subst (Grows f fields c.args.within c.in-Ok.next) (taken-more b ds i d c.loop-declarator-test.true c.declarator-item.is)
-          (grows-more f fields c.args.within c.loop-declarator.now c.in-Ok.next (map (one_of b) (take i ds)) (one_of b d ∷ []) c.loop-declarator.invariant.0 c.in-Ok.ensures.grows),
+      subst (Grows f fields c.args.within.now c.field.new.within) (taken-more b ds i d c.loop-declarator-test.true c.declarator-item.is)
+          (grows-more f fields c.args.within.now c.loop-declarator.within c.field.new.within (map (one_of b) (take i ds)) (one_of b d ∷ []) c.loop-declarator.invariant.0 c.in-Ok.ensures.grows),
       c.loop-declarator.invariant.1 ∙ at-item (λ xs. fields_with f s fields b w xs) ds i d c.loop-declarator-test.true c.declarator-item.is
-          ∙ follows (field f s fields w (one_of b d)) (λ v. fields_with f s fields b v rest) (within_of c.in-Ok.next) c.in-Ok.ensures.within,
+          ∙ follows (field f s fields w (one_of b d)) (λ v. fields_with f s fields b v rest) (within_of c.field.new.within) c.in-Ok.ensures.within,
     )

@@ -7,20 +7,20 @@ use Rattle.kt_names.specs.Statements.{contains}
 use Rattle.kt_names.specs.Functions.{is_defined, is_other_type}
 use Rattle.kt_check.specs.Stages.{frame_seen, sofar_of, head_named, is_head_defined, first_routine}
 use Rattle.kt_check.proofs.Heads.{declared-more, defined-more, types-more, agree-types}
-use Rattle.kt_check.proofs.routine.with_routine.Goals as goal
+use Rattle.kt_check.proofs.routine.add_routine.Goals as goal
 
 pub returns-clause-keeps : goal.returns-clause-keeps
 returns-clause-keeps c =
     let names = (frame_seen c.args.frame.now).names in
-    let s = c.args.sofar in
+    let s = c.args.sofar.now in
     let r = routine_of c.args.f.now in
     let rs = (sofar_of s).routines in
     let h = c.head_with-head.result in
-    let next = record s { routines = c.push.new.self; heads = c.in_ok-now.field-0 } in
+    let next = record s { routines = c.push.new.self; heads = c.put_head.new.heads } in
     let routines : (sofar_of next).routines ≡ rs ++ r ∷ [] =
     ap (map (λ (q : _). routine_of q.now)) c.in_ok-push.ensures.items ∙ map-append (λ (q : _). routine_of q.now) s.routines.items (c.args.f ∷ []) in
     let now-is : (n : List ℕ) → head_named next n ≡ (if bytes_eq n r.name.word then Some h else head_named s n) =
-    λ n. c.in_ok-now.ensures.heads n ∙ ap (λ w. if bytes_eq n w then Some h else head_named s n) c.as_bytes-name.ensures.bytes in
+    λ n. c.in_ok-put_head.ensures.heads n ∙ ap (λ w. if bytes_eq n w then Some h else head_named s n) c.as_bytes-name.ensures.bytes in
     let head : c.head.result ≡ head_named s r.name.word = c.head.ensures ∙ ap (head_named s) c.as_bytes-name.ensures.bytes in
     record {
       globals = c.requires.keeps.globals;

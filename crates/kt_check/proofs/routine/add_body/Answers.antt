@@ -1,4 +1,4 @@
-use Rattle.kt_check.proofs.routine.with_body.Goals as goal
+use Rattle.kt_check.proofs.routine.add_body.Goals as goal
 
 pub returns-clause-keeps : goal.returns-clause-keeps
 returns-clause-keeps c =

@@ -2,7 +2,7 @@ use Rattle.std.proofs.Common.{◌≡◌, ◌≤◌, ℕ, List, length, map, sym,
 use Rattle.kt_types.specs.declared.kinds.Ty.{Ty}
 use Rattle.kt_check.specs.Built.{definition_seen, CanInternAll, CanAdd}
 use Rattle.kt_check.proofs.Interning.{next-of, last-of, table-whole}
-use Rattle.kt_check.proofs.table.table.Goals as goal
+use Rattle.kt_check.proofs.table.fill.Goals as goal
 
 pub define-requires-clause-fit : goal.define-requires-clause-fit
 define-requires-clause-fit c =

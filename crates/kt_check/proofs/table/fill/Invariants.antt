@@ -1,6 +1,6 @@
 use Rattle.std.proofs.Common.{◌≡◌, [], length, map, take, drop}
 use Rattle.kt_check.specs.Built.{definition_seen, reversed_onto, CanBuild}
-use Rattle.kt_check.proofs.table.table.Given as goal
+use Rattle.kt_check.proofs.table.fill.Given as goal
 
 abbrev pub invariant-loop-one : goal.invariant-loop-one
 invariant-loop-one l = record {
