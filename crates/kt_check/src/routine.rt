@@ -330,7 +330,10 @@ fn add_body(frame: &Frame<'_>, sofar: &mut Sofar<'_>, fun: Option<Fun>) -> Resul
     ensures sofar { Judges (λ _. sofar_of sofar.new) result (Ok (with_bodies (sofar_of sofar.old) (functions_seen fun))) }
     ensures keeps { OnOk result (Keeps (frame_seen frame.now).names sofar.new) }
 {
-    push_defined(&mut sofar.functions, fun)
+    match push_defined(&mut sofar.functions, fun) {
+        Ok(()) => Ok(()),
+        Err(fault) => Err(fault),
+    }
 }
 
 /// Adds a function.

@@ -15,8 +15,8 @@ returns-in-Ok c =
     let body = c.body-body.ensures ∙ body-is env c.in_ok-info.info r (is_noted r.body) i.listed i.noted i.result i.types in
     sym (parameters-are (body_of c.body-body.result) (body_in env r (is_noted r.body)) (state_of c.new-scopes.result) no_state r.parameters c.as_slice.result.now body c.new-scopes.ensures c.as_slice.ensures) ∙ c.in-Ok.ensures
 
-pub returns : goal.returns
-returns c =
+pub returns-in-Err : goal.returns-in-Err
+returns-in-Err c =
     let env = environment_of c.args.outside.now in
     let r = routine_of c.args.f.now in
     let i = c.in_ok-info.ensures in

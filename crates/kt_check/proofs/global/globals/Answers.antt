@@ -21,8 +21,8 @@ returns-in-Ok-clause-sofar c =
     (subst (λ p. holds (not p || is_complete (outside f s) (ctype f.names b 0)) (Incomplete (struct_place b)) ≡ Ok tt) c.has_plain.ensures c.in-Ok.ensures)
     c.globals_from.ensures.sofar
 
-pub returns-clause-sofar : goal.returns-clause-sofar
-returns-clause-sofar c =
+pub returns-in-Err-clause-sofar : goal.returns-in-Err-clause-sofar
+returns-in-Err-clause-sofar c =
     let f = frame_seen c.args.frame.now in
     let s = sofar_of c.args.sofar.now in
     let b = c.args.base.now in

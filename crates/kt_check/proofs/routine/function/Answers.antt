@@ -15,8 +15,8 @@ returns-in-Ok-clause-sofar c =
     subst (Judges (λ _. sofar_of c.add_function.new.sofar) c.add_function.result) (sym (function-is f s r))
     (judges-follows (λ _. sofar_of c.add_function.new.sofar) c.add_function.result (function_body_of f s r) (λ d. Ok (with_bodies (with_routine s r) d)) (functions_seen c.in-Ok.fun) c.in-Ok.ensures.body c.add_function.ensures.sofar)
 
-pub returns-clause-sofar : goal.returns-clause-sofar
-returns-clause-sofar c =
+pub returns-in-Err-clause-sofar : goal.returns-in-Err-clause-sofar
+returns-in-Err-clause-sofar c =
     let f = frame_seen c.args.frame.now in
     let s = sofar_of c.args.sofar.now in
     let r = routine_of c.args.f.now in
