@@ -1,3 +1,3 @@
 pub mod CodeSettling
-pub mod FirstFrame
+pub mod Fitting
 pub mod Turned

@@ -71,20 +71,25 @@ tested (Ok true) zero other = zero
 tested (Ok false) zero other = other
 tested (Err t) zero other = Traps t
 
--- ---- operands: a missing one is `uninit`
+-- ---- operands
+
+-- an instruction whose place or operands are missing is no step of a thread: it stands as a return of 2^31 from `main`,
+-- which is no `int`
+abbrev pub stuck : Step Private
+stuck = Ends (act.MainReturn (pos 2147483648))
 
 abbrev pub on_top : (Value → List Value → Step Private) → List Value → Step Private
-on_top f [] = Traps trap.Uninit
+on_top f [] = stuck
 on_top f (v ∷ ops) = f v ops
 
 -- the left operand stands below the right one
 abbrev pub on_two : (Value → Value → List Value → Step Private) → List Value → Step Private
 on_two f (b ∷ a ∷ ops) = f a b ops
-on_two f _ = Traps trap.Uninit
+on_two f _ = stuck
 
 -- so many operands, the last one topmost
 abbrev pub on_list : ℕ → (List Value → List Value → Step Private) → List Value → Step Private
-on_list n f ops = if nat_le n (length ops) then f (reverse (take n ops)) (drop n ops) else Traps trap.Uninit
+on_list n f ops = if nat_le n (length ops) then f (reverse (take n ops)) (drop n ops) else stuck
 
 abbrev pub unary : (Value → Result Value Trap) → Here → List Value → Step Private
 unary f x = on_top (λ a ops. gives x ops (f a))
@@ -191,9 +196,8 @@ do_one entries instr.NoValue x ops = Traps trap.Uninit
 
 -- ---- the state's next step
 
--- where there is no instruction, that is `uninit`
 abbrev pub instr_step : List ℕ → Option Instr → Here → List Value → Step Private
-instr_step entries None x ops = Traps trap.Uninit
+instr_step entries None x ops = stuck
 instr_step entries (Some i) x ops = do_one entries i x ops
 
 -- where a private state with this first frame stands, the next instruction taken
@@ -209,7 +213,7 @@ here p f below = record {
 
 -- the next step of a private state whose frames are these
 abbrev pub frames_step : List Instr → List ℕ → Private → List Frame → Step Private
-frames_step instrs entries p [] = Traps trap.Uninit
+frames_step instrs entries p [] = stuck
 frames_step instrs entries p (f ∷ below) = instr_step entries (slice_get instrs f.at) (here p f below) p.operands
 
 abbrev pub step : Code → Private → Step Private

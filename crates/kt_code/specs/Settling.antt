@@ -1,13 +1,14 @@
 -- Settling: the quiet steps up to the next act, trap or end. Each jump back goes to a tick, so they are finitely many.
-use Rattle.std.specs.Prelude.{◌≡◌, ℕ, zero, suc, ◌+◌, ◌-◌, ◌≤◌, Bool, true, false, IsTrue, List, [], ◌∷◌, length, slice_get, Option, None, Some, if◌then◌else◌}
+use Rattle.std.specs.Prelude.{◌≡◌, ℕ, zero, suc, ◌+◌, ◌-◌, ◌<◌, ◌≤◌, ◌^◌, Bool, true, false, IsTrue, List, [], ◌∷◌, length, slice_get, Option, None, Some, if◌then◌else◌}
 use Rattle.kt_mem.specs.declared.steps.Act.{Act}
 use Rattle.kt_mem.specs.declared.steps.Act.TheVariants as act
 use Rattle.kt_mem.specs.declared.steps.Reply.{Reply}
 use Rattle.kt_tree.specs.Kinds.{fits_in}
-use Rattle.kt_meaning.specs.Steps.{Step, Quiet, Acts, Traps, Ends, settle_by}
+use Rattle.kt_meaning.specs.Steps.{Step, Quiet, Acts, Traps, Ends, Comes, settle_by}
 use Rattle.kt_code.specs.Agreement.{IsAnswer}
 use Rattle.kt_code.specs.Code.{Code}
 use Rattle.kt_code.specs.Machine.{step}
+use Rattle.kt_code.specs.Requests.{operand_count}
 use Rattle.kt_code.specs.declared.frame.Frame.{Frame}
 use Rattle.kt_code.specs.declared.private.Private.{Private}
 use Rattle.kt_code.specs.declared.private.Head.{Head}
@@ -29,6 +30,10 @@ IsJump instrs next i = Unit {0}
 
 abbrev pub HasJumps : List Instr → Type 0
 HasJumps instrs = (p : ℕ) (i : Instr) → slice_get instrs p ≡ Some i → IsJump instrs (suc p) i
+
+-- a place is a number below 2^32
+abbrev pub HasPlaces : List Instr → Type 0
+HasPlaces instrs = length instrs < 2 ^ 32
 
 -- ---- the measure
 
@@ -72,7 +77,57 @@ abbrev pub is_last : Act → Bool
 is_last (act.MainReturn n) = fits_in 31 n
 is_last a = true
 
--- the head has its place among acts and traps, and goes on so after each reply of its kind
+-- how many operands an instruction takes
+abbrev pub operands_of : Instr → ℕ
+operands_of (instr.Set n) = 1
+operands_of (instr.Swap n) = 1
+operands_of instr.Discard = 1
+operands_of instr.Duplicate = 1
+operands_of (instr.Add t) = 2
+operands_of (instr.Subtract t) = 2
+operands_of (instr.Multiply t) = 2
+operands_of (instr.Divide t) = 2
+operands_of (instr.Remainder t) = 2
+operands_of (instr.Convert t) = 1
+operands_of instr.Less = 2
+operands_of instr.Greater = 2
+operands_of instr.LessEqual = 2
+operands_of instr.GreaterEqual = 2
+operands_of instr.Equal = 2
+operands_of instr.NotEqual = 2
+operands_of instr.Not = 1
+operands_of (instr.ElementAfter w) = 2
+operands_of (instr.ElementBefore w) = 2
+operands_of (instr.ElementsBetween w) = 2
+operands_of (instr.Field n) = 1
+operands_of (instr.Load t) = 1
+operands_of (instr.Fetch t) = 1
+operands_of (instr.Store t) = 2
+operands_of (instr.StoreOld t) = 3
+operands_of (instr.Ask q) = operand_count q
+operands_of (instr.Call g arguments locals) = arguments
+operands_of (instr.SkipIfZero n) = 1
+operands_of (instr.And n) = 1
+operands_of (instr.Or n) = 1
+operands_of instr.Truth = 1
+operands_of (instr.BackIfNotZero n) = 1
+operands_of instr.Return = 1
+operands_of _ = 0
+
+-- the next instruction has its place in the code and its operands
+pub record HasNext (c : Code) (p : Private) : Type 0 where
+  pub frame : Frame
+  pub below : List Frame
+  pub first : p.frames ≡ frame ∷ below
+  pub instruction : Instr
+  pub place : slice_get c.instrs frame.at ≡ Some instruction
+  pub operands : operands_of instruction ≤ length p.operands
+
+-- so has every instruction that is met up to the next act, trap or end
+abbrev pub HasEach : Code → Private → Type 0
+HasEach c p = (k : ℕ) (q : Private) → Comes (step c) k p q → HasNext c q
+
+-- the thread goes on so after each reply of the act's kind; what `main` returns is an `int`
 abbrev pub FitsHead : (Private → Type 0) → Step Private → Type 0
 FitsHead P (Quiet p) = ⊥
 FitsHead P (Acts a go) = (r : Reply) → IsAnswer a r → P (go r)
@@ -82,8 +137,9 @@ FitsHead P (Ends a) = IsTrue (is_last a)
 -- on all lists of fewer than n replies
 abbrev pub FitsFor : Code → ℕ → Private → Type 0
 FitsFor c zero p = Unit {0}
-FitsFor c (suc n) p = FitsHead (FitsFor c n) (step c (settle c p))
+FitsFor c (suc n) p = HasEach c p × FitsHead (FitsFor c n) (step c (settle c p))
 
--- a private state fits code where, on all lists of replies of the acts' kinds, it settles in acts that there are
+-- a private state fits code where, on all lists of replies of the acts' kinds, every instruction that is met has its place
+-- and its operands, and what `main` returns is an `int`
 abbrev pub Fits : Code → Private → Type 0
 Fits c p = (n : ℕ) → FitsFor c n p

@@ -1,6 +1,6 @@
 //! Code.
-ghost use Rattle.std.specs.Prelude.{◌≡◌, ◌++◌, OnOk, OnErr};
-ghost use Rattle.kt_code.specs.Settling.{HasJumps};
+ghost use Rattle.std.specs.Prelude.{◌≡◌, ◌++◌, OnOk, OnErr, slice_get};
+ghost use Rattle.kt_code.specs.Settling.{HasJumps, HasPlaces};
 
 use crate::instr::Instr;
 use kt_types::Points;
@@ -91,8 +91,8 @@ impl Entries {
     }
 }
 
-/// The instructions of a version, where its functions begin, and the names of its points. Each jump forward stays within
-/// the code, and each jump back goes to a tick.
+/// The instructions of a version, where its functions begin, and the names of its points. There are fewer than 2^32 of
+/// them; each jump forward stays within the code, and each jump back goes to a tick.
 #[derive(Drop)]
 pub struct Code {
     instrs: Instrs,
@@ -102,19 +102,20 @@ pub struct Code {
 
 impl Model for Code {
     ghost use Rattle.kt_code.specs.Code.{Code as Content};
-    ghost use Rattle.kt_code.specs.Settling.{HasJumps};
+    ghost use Rattle.kt_code.specs.Settling.{HasJumps, HasPlaces};
 
     ghost Value = { Content };
 
     ghost view = { λ c. record { instrs = c.instrs; entries = c.entries; points = c.points } };
 
-    ghost invariant = { λ c. HasJumps c.instrs };
+    ghost invariant = { λ c. HasJumps c.instrs × HasPlaces c.instrs };
 }
 
 impl Code {
     /// The code of these instructions.
     pub fn new(instrs: Instrs, entries: Entries, points: Points) -> Code
-        requires { HasJumps instrs }
+        requires jumps { HasJumps instrs }
+        requires places { HasPlaces instrs }
         ensures { result ≡ record { instrs = instrs; entries = entries; points = points } }
     {
         Code {
@@ -128,6 +129,7 @@ impl Code {
     pub fn instrs(&self) -> &[Instr]
         ensures value { result.now ≡ self.now.instrs }
         ensures jumps { HasJumps self.now.instrs }
+        ensures places { HasPlaces self.now.instrs }
     {
         self.instrs.as_slice()
     }
@@ -139,6 +141,13 @@ impl Code {
         self.entries.as_slice()
     }
 
+    /// Where the code of a function begins.
+    pub fn entry(&self, function: u32) -> Option<u32>
+        ensures { result ≡ slice_get self.now.entries function }
+    {
+        self.entries.as_slice().get(function as usize).copied()
+    }
+
     /// The names of the points.
     pub fn points(&self) -> &Points
         ensures { result.now ≡ self.now.points }
@@ -146,12 +155,16 @@ impl Code {
         &self.points
     }
 
-    /// Puts more instructions behind these.
+    /// Puts more instructions behind these; 2^32 or more of them are want of memory.
     pub fn append(&mut self, more: Vec<Instr>) -> Result<(), AllocError>
         requires { HasJumps (self.old.instrs ++ more.items) }
         ensures ok { OnOk result (self.new ≡ record self.old { instrs = self.old.instrs ++ more.items }) }
         ensures err { OnErr result (self.new ≡ self.old) }
     {
+        let room = u32::MAX as usize - self.instrs.as_slice().len();
+        if room < more.len() {
+            return Err(AllocError);
+        }
         self.instrs.append(more)?;
         Ok(())
     }

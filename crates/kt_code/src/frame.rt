@@ -1,11 +1,9 @@
 //! Open calls.
-ghost use Rattle.std.specs.Prelude.{◌≡◌, [], ◌∷◌, length, reverse, drop, slice_set, MatchOption, OnOk, OnErr};
-ghost use Rattle.kt_code.specs.Frames.{with_place, with_first_local, first_local};
+ghost use Rattle.std.specs.Prelude.{◌≡◌, [], ◌∷◌, length, reverse, drop, MatchOption, OnOk, OnErr};
 
-use kt_mem::{Value, Values};
+use kt_mem::Values;
 use std::alloc::{AllocError, Global};
 use std::marker::Model;
-use std::mem;
 
 /// A call that is open: the number of the function, the place of its next instruction, and the values of its locals.
 #[derive(Drop)]
@@ -103,46 +101,6 @@ impl Frames {
     {
         self.items.pop()
     }
-
-    /// The latest call goes on at this place.
-    pub fn go_to(&mut self, at: u32)
-        ensures { self.new ≡ with_place at self.old }
-    {
-        let Some(last) = self.items.len().checked_sub(1) else {
-            return;
-        };
-        self.items[last].at = at;
-    }
-
-    /// What a local of the latest call holds.
-    pub fn local(&self, n: u32) -> Option<Value>
-        ensures { result ≡ first_local self.now n }
-    {
-        let frame = self.first()?;
-        frame.locals.as_slice().get(n as usize).copied()
-    }
-
-    /// A local of the latest call takes a value.
-    pub fn set_local(&mut self, n: u32, value: Value)
-        ensures { self.new ≡ with_first_local n value self.old }
-    {
-        let Some(last) = self.items.len().checked_sub(1) else {
-            return;
-        };
-        let alloc = *self.items.allocator();
-        set(alloc, &mut self.items[last].locals, n, value);
-    }
-}
-
-// The value at a place becomes another; where there is none, nothing changes.
-fn set(alloc: Global, values: &mut Values, n: u32, value: Value)
-    ensures { values.new ≡ slice_set values.old n value }
-{
-    let mut items = mem::replace(values, Values::from_vec(Vec::new(alloc))).into_vec();
-    if let Some(item) = items.get_mut(n as usize) {
-        *item = value;
-    }
-    *values = Values::from_vec(items);
 }
 
 impl Clone for Frames {

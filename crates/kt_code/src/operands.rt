@@ -2,7 +2,6 @@
 ghost use Rattle.std.specs.Prelude.{◌≡◌, ◌≤◌, [], ◌∷◌, length, take, drop, reverse, slice_get, MatchOption, OnOk, OnErr};
 
 use kt_mem::Value;
-use smallvec::SmallVec;
 use std::alloc::{AllocError, Global};
 use std::marker::Model;
 
@@ -34,23 +33,11 @@ impl Operand {
     }
 }
 
-impl Default for Operand {
-    ghost use Rattle.kt_mem.specs.declared.memory.Value.TheVariants.{Undef};
-
-    ghost is_default = { λ o. o ≡ Undef };
-
-    fn default() -> Operand {
-        Operand {
-            value: Value::Undef,
-        }
-    }
-}
-
 /// The values that instructions take and put, seen as a list with the topmost first.
 #[derive(Drop)]
 pub struct Operands {
     // The topmost stands last.
-    items: SmallVec<Operand, 8>,
+    items: Vec<Operand>,
 }
 
 impl Model for Operands {
@@ -68,7 +55,7 @@ impl Operands {
         ensures { result ≡ [] }
     {
         Operands {
-            items: SmallVec::new(alloc),
+            items: Vec::new(alloc),
         }
     }
 
@@ -132,7 +119,8 @@ impl Clone for Operands {
     ghost is_clone = { λ a b. b ≡ a };
 
     fn clone(&self) -> Result<Operands, AllocError> {
-        let items = SmallVec::from_slice(*self.items.allocator(), self.items.as_slice())?;
-        Ok(Operands { items })
+        Ok(Operands {
+            items: self.items.clone()?,
+        })
     }
 }

@@ -19,6 +19,7 @@ use Rattle.kt_code.specs.Machine.{step as code_step}
 use Rattle.kt_code.specs.Settling.{HasJumps, settle, is_last, FitsHead, FitsFor}
 use Rattle.kt_code.specs.declared.private.Private.{Private}
 use Rattle.kt_code.proofs.CodeSettling.{settle-settles}
+use Rattle.kt_code.proofs.Fitting.{fits_for-head}
 use Rattle.kt_pair.specs.VersionActs.{entry_state, IsLastResult, FitsEntries}
 use Rattle.kt_codegen.specs.VersionCode.{version_code}
 use Rattle.kt_codegen.specs.StatementActs.{StatementsDo}
@@ -65,9 +66,9 @@ module _ (s : Version) (c : Code) (program : IsProgram s.program) (jumps : HasJu
   fits-for (suc n) t p h good =
       let there = comes-good h.left_count t h.left good h.left_comes in
       let same : h.right ≡ settle c p = (settle-settles c jumps p).only h.right_count h.right h.right_comes (same-head-is (tree_step s h.left) (code_step c h.right) h.head) in
-      subst (λ q. FitsHead (FitsFor c n) (code_step c q)) same
+      fits_for-head c jumps n p (subst (λ q. FitsHead (FitsFor c n) (code_step c q)) same
       (head-fits n (tree_step s h.left) (code_step c h.right) h.head h.onward (step-Keeps s program h.left there.thread)
-      (step-stays s program b k bottom_is last h.left there.thread there.stands) (fits-for n))
+      (step-stays s program b k bottom_is last h.left there.thread there.stands) (fits-for n)))
 
 pub version-fits : (s : Version) → IsProgram s.program → StatementsDo s (version_code s.program) → FitsEntries s (version_code s.program)
 version-fits s program statements g at f arguments r is entry_is last are restart n =

@@ -1,5 +1,7 @@
 //! From a version to its code.
 ghost use Rattle.std.specs.Prelude.{◌≡◌, IfOk};
+ghost use Rattle.kt_meaning.specs.Laws.{numbered};
+ghost use Rattle.kt_pair.specs.VersionActs.{DoesVersion, FitsEntries};
 ghost use Rattle.kt_codegen.specs.VersionCode.{version_code};
 
 use crate::functions::emit_functions;
@@ -9,9 +11,14 @@ use kt_pair::Compiled;
 use kt_tree::Version;
 use std::alloc::{AllocError, Global};
 
-/// The code of a version, beside the version.
+/// The version beside code of it. Whatever number the version has, the code does exactly the acts of its trees, from each
+/// function's entry, with any arguments, on all lists of replies; the states at which threads begin fit the code, and the
+/// code names the version's points. Code of 2^32 instructions or more is want of memory.
 pub fn compile(alloc: Global, version: Version) -> Result<Compiled, AllocError>
-    ensures { IfOk result (λ c. c ≡ record { program = version; code = version_code version }) }
+    ensures version { IfOk result (λ c. c.program ≡ version) }
+    ensures acts { IfOk result (λ c. (n : _) → DoesVersion (numbered version n) c.code) }
+    ensures fits { IfOk result (λ c. (n : _) → FitsEntries (numbered version n) c.code) }
+    ensures points { IfOk result (λ c. c.code.points ≡ version.points) }
 {
     version_code_law(&version);
     match code_of(alloc, &version) {
@@ -30,5 +37,8 @@ fn code_of(alloc: Global, version: &Version) -> Result<Code, AllocError>
     version_code_law(version);
     let points = version.points().clone()?;
     let (instrs, entries) = emit_functions(alloc, version)?;
+    if instrs.len() > u32::MAX as usize {
+        return Err(AllocError);
+    }
     Ok(Code::new(Instrs::from_vec(instrs), Entries::from_vec(entries), points))
 }

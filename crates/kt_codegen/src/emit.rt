@@ -4,9 +4,9 @@ ghost use Rattle.std.specs.Option.{option_map};
 ghost use Rattle.kt_tree.specs.Tree.{expression_of, statement_of, statements_of};
 ghost use Rattle.kt_codegen.specs.Emitting.{Puts, PutsAll, dropped_in, step_in, return_in};
 
-use crate::parts::{passed, put, put_entry, put_skip, put_test, put_tick};
+use crate::parts::{passed, put_entry, put_skip, put_test, put_tick};
 use kt_code::Instr;
-use kt_genexpr::emit_expr;
+use kt_genexpr::{emit_expr, put};
 use kt_tree::{Expr, Stmt, Version};
 use sqlite_items::{Boxed, Items};
 use std::alloc::{AllocError, Global};

@@ -6,8 +6,8 @@ ghost use Rattle.kt_codegen.specs.Emitting.{function_in, functions_in, entries_i
 ghost use Rattle.kt_codegen.specs.VersionCode.{end_code};
 
 use crate::emit::emit_stmt;
-use crate::parts::put;
 use kt_code::Instr;
+use kt_genexpr::put;
 use kt_tree::{Fun, Version};
 use std::alloc::{AllocError, Global};
 

@@ -11,7 +11,7 @@ use kt_tree::{Version, version_law};
 
 /// The code of a statement that fits into a function of a version does what the statement does, wherever it stands in code,
 /// if code does what the calls of functions do.
-pub fn statement_law(version: &Version)
+pub(crate) fn statement_law(version: &Version)
     ensures { (n : _) (c : Code) → StatementsDo (numbered version.now n) c }
 {
     expression_law(version);
@@ -20,7 +20,7 @@ pub fn statement_law(version: &Version)
 /// Whatever the version's number is, its code does the acts of its trees: from each function's entry, with any arguments,
 /// on all lists of replies. Each jump forward stays within the code and each jump back goes to a tick. The states at which
 /// threads begin fit the code.
-pub fn version_code_law(version: &Version)
+pub(crate) fn version_code_law(version: &Version)
     ensures acts { (n : _) → DoesVersion (numbered version.now n) (version_code version.now) }
     ensures jumps { HasJumps (version_code version.now).instrs }
     ensures fits { (n : _) → FitsEntries (numbered version.now n) (version_code version.now) }

@@ -1,5 +1,5 @@
-//! The compiler: the code of statements, functions and versions. Its definition, what it is for code to do the acts of a
-//! version, and the laws that the code of a statement and of a version does, stand in `specs/`.
+//! The compiler: from a version to code that does the version's acts. Which instructions it takes for what is its own
+//! affair: that stands in `specs/`, for the proof that they do, and no clause of `compile` names it.
 #![tactic(auto)]
 
 mod compiler;
@@ -9,4 +9,3 @@ mod laws;
 mod parts;
 
 pub use compiler::compile;
-pub use laws::{statement_law, version_code_law};

@@ -6,17 +6,9 @@ ghost use Rattle.kt_code.specs.declared.instr.Instr.TheVariants as instr;
 ghost use Rattle.kt_codegen.specs.Emitting.{back, test_in, entry_code};
 
 use kt_code::Instr;
-use kt_genexpr::emit_expr;
+use kt_genexpr::{emit_expr, put};
 use kt_tree::{Expr, Version};
 use std::alloc::{AllocError, Global};
-
-/// Puts one instruction behind others.
-pub fn put(out: &mut Vec<Instr>, instr: Instr) -> Result<(), AllocError>
-    ensures { OnOk result (out.new.items ≡ out.old.items ++ instr ∷ []) }
-{
-    out.push(instr)?;
-    Ok(())
-}
 
 /// How many instructions stand between two places; 2^32 or more are want of memory.
 pub fn passed(from: usize, to: usize) -> Result<u32, AllocError>

@@ -5,3 +5,4 @@ pub mod RenamedOperations
 pub mod RenamedRequests
 pub mod RenamedSteps
 pub mod Settled
+pub mod Standing

@@ -21,7 +21,7 @@ use Rattle.kt_meaning.specs.Requests.{act_of, request_value, told}
 use Rattle.kt_meaning.specs.Steps.{Step, Quiet, Acts, Traps, Ends, or_rest, settle_within, after_reply}
 use Rattle.kt_meaning.specs.Thread.{defined_if}
 use Rattle.kt_code.specs.Code.{Code}
-use Rattle.kt_code.specs.Machine.{Here, stands, passes, goes_back, with_local, changed_by, goes, gives, tested, on_top, on_two, on_list, unary, binary, swaps, asks, entry_frame, enters, calls, main_returns, returns, leaves, do_one, instr_step, here, frames_step, step}
+use Rattle.kt_code.specs.Machine.{Here, stands, passes, goes_back, with_local, changed_by, goes, gives, tested, stuck, on_top, on_two, on_list, unary, binary, swaps, asks, entry_frame, enters, calls, main_returns, returns, leaves, do_one, instr_step, here, frames_step, step}
 use Rattle.kt_code.specs.Requests.{operand_count, untyped}
 use Rattle.kt_code.specs.Settling.{room, rooms, weight, settle, head_of}
 use Rattle.kt_code.specs.declared.frame.Frame.{Frame}
@@ -126,9 +126,9 @@ on_list-renamed f n g h ops e =
     let vs : map r (reverse (take n ops)) ≡ reverse (take n (map r ops)) = map-reverse r (take n ops) ∙ ap reverse (sym (take-map r n ops)) in
     let second = subst (λ l. IsRenamed f s (h l (map r (drop n ops)))) vs first in
     let third = subst (λ l. IsRenamed f s (h (reverse (take n (map r ops))) l)) (sym (drop-map r n ops)) second in
-    subst (λ k. IsRenamed f (on_list n g ops) (if nat_le n k then h (reverse (take n (map r ops))) (drop n (map r ops)) else Traps trap.Uninit))
+    subst (λ k. IsRenamed f (on_list n g ops) (if nat_le n k then h (reverse (take n (map r ops))) (drop n (map r ops)) else stuck))
     (sym (length-map ops r))
-    (choice-renamed f (nat_le n (length ops)) s (Traps trap.Uninit) (h (reverse (take n (map r ops))) (drop n (map r ops))) (Traps trap.Uninit) third refl)
+    (choice-renamed f (nat_le n (length ops)) s stuck (h (reverse (take n (map r ops))) (drop n (map r ops))) stuck third refl)
 
 unary-renamed : (f : ℕ → ℕ) (g : Value → Result Value Trap) (x : Here) (ops : List Value) →
     ((a : Value) → g (rename_value f a) ≡ rename_result f (g a)) → IsRenamed f (unary g x ops) (unary g (rename_here f x) (rename_values f ops))

@@ -1,5 +1,5 @@
 -- Settled states: what settles to the same, and what fits code.
-use Rattle.std.specs.Prelude.{◌≡◌, ℕ, zero, suc, [], Some, refl}
+use Rattle.std.specs.Prelude.{◌≡◌, ℕ, suc, Some, refl}
 use Rattle.std.proofs.Common.{sym, subst, ◌∙◌}
 use Rattle.kt_mem.specs.declared.steps.Act.{Act}
 use Rattle.kt_mem.specs.declared.steps.Reply.{Reply}
@@ -10,11 +10,12 @@ use Rattle.kt_meaning.specs.Steps.{Step, Quiet, Acts, Traps, Ends, IsHead}
 use Rattle.kt_meaning.proofs.Settling.{settle_by-rests, settle_by-quiet}
 use Rattle.kt_code.specs.Agreement.{IsAnswer, IsReplyTo}
 use Rattle.kt_code.specs.Code.{Code}
-use Rattle.kt_code.specs.Machine.{frames_step, step}
+use Rattle.kt_code.specs.Machine.{step}
 use Rattle.kt_code.specs.Settling.{HasJumps, weight, settle, head_of, IsAct, FitsHead, FitsFor, Fits}
 use Rattle.kt_code.specs.declared.private.Head.{Head}
 use Rattle.kt_code.specs.declared.private.Private.{Private}
 use Rattle.kt_code.proofs.CodeSettling.{step-IsLowering}
+use Rattle.kt_code.proofs.Fitting.{fits-settled}
 use Rattle.kt_exec.specs.Apart.{EndsInInt, GoesOn}
 
 -- a step that has a head is no quiet one
@@ -33,28 +34,23 @@ pub settle-quiet : (c : Code) → HasJumps c.instrs → (p q : Private) → step
 unfolding settle
 settle-quiet c jumps p q e = settle_by-quiet (step c) (weight c) (step-IsLowering c jumps) p q e
 
--- what settles to the same fits alike
-fits_for-same : (c : Code) (p q : Private) → settle c p ≡ settle c q → Fits c p → (n : ℕ) → FitsFor c n q
-fits_for-same c p q e h zero = tt
-fits_for-same c p q e h (suc n) = subst (λ s. FitsHead (FitsFor c n) (step c s)) e (h (suc n))
-
-pub fits-same : (c : Code) (p q : Private) → settle c p ≡ settle c q → Fits c p → Fits c q
-fits-same c p q e h = fits_for-same c p q e h
-
 -- where the step is no quiet one, it is the one that is said to fit
+fits-at : (c : Code) (p q : Private) (n : ℕ) → settle c p ≡ settle c q → IsHead (step c q) → Fits c p → FitsHead (FitsFor c n) (step c q)
+fits-at c p q n e head h = subst (λ s. FitsHead (FitsFor c n) (step c s)) (e ∙ settle-rests c q head) ((h (suc n)).1)
+
 fits-here : (c : Code) (p : Private) (n : ℕ) → IsHead (step c p) → Fits c p → FitsHead (FitsFor c n) (step c p)
-fits-here c p n head h = subst (λ s. FitsHead (FitsFor c n) (step c s)) (settle-rests c p head) (h (suc n))
+fits-here c p n head h = fits-at c p p n refl head h
 
-ends-in-int : (c : Code) (p : Private) (s : Step Private) → step c p ≡ s → Fits c p → EndsInInt s
-ends-in-int c p (Quiet q) e h = tt
-ends-in-int c p (Acts a go) e h = tt
-ends-in-int c p (Traps t) e h = tt
-ends-in-int c p (Ends a) e h =
-    subst (FitsHead (FitsFor c 0)) e (fits-here c p 0 (subst IsHead (sym e) tt) h)
+ends-in-int : (c : Code) (p q : Private) (s : Step Private) → step c q ≡ s → settle c p ≡ settle c q → Fits c p → EndsInInt s
+ends-in-int c p q (Quiet y) e same h = tt
+ends-in-int c p q (Acts a go) e same h = tt
+ends-in-int c p q (Traps t) e same h = tt
+ends-in-int c p q (Ends a) e same h =
+    subst (FitsHead (FitsFor c 0)) e (fits-at c p q 0 same (subst IsHead (sym e) tt) h)
 
--- what `main` returns is an `int`
-pub fits-ends : (c : Code) (p : Private) → Fits c p → EndsInInt (step c p)
-fits-ends c p h = ends-in-int c p (step c p) refl h
+-- what `main` returns is an `int`, also where quiet steps have led from a state that fits
+pub fits-ends : (c : Code) (p q : Private) → settle c p ≡ settle c q → Fits c p → EndsInInt (step c q)
+fits-ends c p q same h = ends-in-int c p q (step c q) refl same h
 
 -- where a thread goes on after a reply, it fits again
 fits_for-after : (c : Code) (p : Private) (a : Act) (go : Reply → Private) (r : Reply) → step c p ≡ Acts a go → Fits c p →
@@ -81,10 +77,5 @@ pub fits-after : (c : Code) (p q : Private) (r : Reply) → IsAct (step c p) →
 fits-after c p q r act is h free on = goes-on-fits c p q r (step c p) refl act is h free on
 
 -- what was settled to fits
-pub fits-stands : (c : Code) (p q : Private) (h : Head) → q ≡ settle c p → head_of (step c q) ≡ Some h → Fits c p → Fits c q
-fits-stands c p q h e head fits =
-    fits-same c p q (sym e ∙ sym (settle-rests c q (head_of-IsHead (step c q) h head))) fits
-
--- a thread without a frame is settled
-pub settle-without-frame : (c : Code) (p : Private) → p.frames ≡ [] → settle c p ≡ p
-settle-without-frame c p e = settle-rests c p (subst (λ frames. IsHead (frames_step c.instrs c.entries p frames)) (sym e) tt)
+pub fits-stands : (c : Code) (p q : Private) → q ≡ settle c p → Fits c p → Fits c q
+fits-stands c p q e fits = subst (Fits c) (sym e) (fits-settled c p fits)

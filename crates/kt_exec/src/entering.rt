@@ -4,7 +4,6 @@ ghost use Rattle.kt_mem.specs.declared.steps.Reply.{Reply};
 ghost use Rattle.kt_code.specs.Machine.{do_one};
 ghost use Rattle.kt_exec.specs.Apart.{Answers};
 
-use crate::calls::entry;
 use crate::top::Top;
 use kt_code::{Code, Instr, Operand, Private};
 use kt_mem::Value;
@@ -41,7 +40,7 @@ pub(crate) fn enter(
     if rest.operands.len() < count {
         return Ok(());
     }
-    let Some(at) = entry(code, function) else {
+    let Some(at) = code.entry(function) else {
         return Ok(());
     };
     let locals = first_locals(alloc, locals, rest.operands.last(count))?;

@@ -1,60 +1,47 @@
 //! One step of a thread.
 ghost use Rattle.std.specs.Prelude.{IfOk};
 ghost use Rattle.kt_code.specs.Machine.{do_one, step};
-ghost use Rattle.kt_exec.specs.Apart.{EndsInInt, IsOneStep, Steps, does, taken, whole};
+ghost use Rattle.kt_exec.specs.Apart.{IsOneStep, Steps, does, taken, whole};
 ghost use Rattle.kt_exec.specs.Operations.{Computes};
 
-use crate::calls::{call, leave, return_value};
-use crate::heads::{load, store, store_old};
+use crate::calls::{leave, return_value};
 use crate::jumps::{and, back, back_if_not_zero, or, skip, skip_if_zero, test};
 use crate::locals::{read, set, swap, undefine};
 use crate::operations::{operate_on_one, operate_on_two};
-use crate::requests::ask;
-use crate::stack::{discard, duplicate, missing, put};
+use crate::stack::{discard, duplicate, put};
 use crate::top::Top;
-use kt_code::{Code, Head, Instr, Private};
-use kt_mem::{Act, Name, Value};
-use std::alloc::{AllocError, Global};
+use crate::went::Went;
+use kt_code::{Code, Instr, Private};
+use kt_mem::{Name, Trap, Value};
+use std::alloc::AllocError;
 
-/// One step of a thread whose first frame stands apart: a quiet step, or what it has come to.
-pub(crate) fn step(
-    alloc: Global,
-    code: &Code,
-    top: &mut Top,
-    rest: &mut Private,
-) -> Result<Option<Head>, AllocError>
-    requires { EndsInInt (step code.now (whole top.old rest.old)) }
+/// One step of a thread whose first frame stands apart: a quiet one is taken; at any other the thread stays as it is.
+pub(crate) fn step(code: &Code, top: &mut Top, rest: &mut Private) -> Result<Went, AllocError>
     ensures { IfOk result (IsOneStep (step code.now (whole top.old rest.old)) (whole top.old rest.old) (whole top.new rest.new)) }
 {
     match code.instrs().get(top.at() as usize) {
-        Some(instr) => execute(alloc, code, instr, top, rest),
-        None => missing(),
+        Some(instr) => execute(code, instr, top, rest),
+        None => Err(AllocError),
     }
 }
 
 /// One instruction: calls, jumps and acts.
 fn execute(
-    alloc: Global,
     code: &Code,
     instr: &Instr,
     top: &mut Top,
     rest: &mut Private,
-) -> Result<Option<Head>, AllocError>
-    requires { EndsInInt (do_one code.now.entries instr.now (taken top.old rest.old) rest.old.operands) }
+) -> Result<Went, AllocError>
     ensures { Steps (do_one code.now.entries instr.now) top.old rest.old top.new rest.new result }
 {
     match instr {
-        Instr::Load(ty) => Ok(Some(load(*ty, &rest.operands))),
-        Instr::Fetch(ty) => Ok(Some(load(*ty, &rest.operands))),
-        Instr::Store(ty) => Ok(Some(store(*ty, &rest.operands))),
-        Instr::StoreOld(ty) => Ok(Some(store_old(*ty, &rest.operands))),
-        Instr::Ask(request) => Ok(Some(ask(alloc, request.get(), top, rest)?)),
-        Instr::Tick => Ok(Some(Head::Act(Act::Tick))),
-        Instr::Call {
-            function,
-            arguments,
-            locals,
-        } => Ok(Some(call(code, *function, *arguments, *locals, top, rest))),
+        Instr::Load(_) => Ok(Went::Stands),
+        Instr::Fetch(_) => Ok(Went::Stands),
+        Instr::Store(_) => Ok(Went::Stands),
+        Instr::StoreOld(_) => Ok(Went::Stands),
+        Instr::Ask(_) => Ok(Went::Stands),
+        Instr::Tick => Ok(Went::Stands),
+        Instr::Call { .. } => Ok(Went::Stands),
         Instr::Skip(count) => skip(*count, top, rest),
         Instr::SkipIfZero(count) => skip_if_zero(*count, top, rest),
         Instr::And(count) => and(*count, top, rest),
@@ -64,13 +51,13 @@ fn execute(
         Instr::BackIfNotZero(count) => back_if_not_zero(*count, top, rest),
         Instr::Return => return_value(top, rest),
         Instr::Leave => leave(top, rest),
-        Instr::NoValue => missing(),
+        Instr::NoValue => Ok(Went::Trap(Trap::Uninit)),
         _ => compute(instr, top, rest),
     }
 }
 
 /// One instruction that computes a value.
-fn compute(instr: &Instr, top: &mut Top, rest: &mut Private) -> Result<Option<Head>, AllocError>
+fn compute(instr: &Instr, top: &mut Top, rest: &mut Private) -> Result<Went, AllocError>
     requires { Computes instr.now }
     ensures { Steps (does instr.now) top.old rest.old top.new rest.new result }
 {

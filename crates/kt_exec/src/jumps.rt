@@ -3,34 +3,35 @@ ghost use Rattle.std.specs.Prelude.{◌≡◌};
 ghost use Rattle.kt_code.specs.Machine.{goes, passes, goes_back};
 ghost use Rattle.kt_exec.specs.Apart.{Steps, does};
 
-use crate::stack::{give_back, missing, put};
+use crate::stack::{give_back, put};
 use crate::top::Top;
-use kt_code::{Head, Instr, Private};
+use crate::went::Went;
+use kt_code::{Instr, Private};
 use kt_mem::{is_zero, truth};
 use std::alloc::AllocError;
 
 /// The next instruction is taken.
-fn go(top: &mut Top, rest: &Private) -> Result<Option<Head>, AllocError>
+fn go(top: &mut Top, rest: &Private) -> Result<Went, AllocError>
     ensures { Steps goes top.old rest.now top.new rest.now result }
 {
     top.next()?;
-    Ok(None)
+    Ok(Went::On)
 }
 
 /// Passes instructions.
-pub(crate) fn skip(count: u32, top: &mut Top, rest: &Private) -> Result<Option<Head>, AllocError>
+pub(crate) fn skip(count: u32, top: &mut Top, rest: &Private) -> Result<Went, AllocError>
     ensures { Steps (λ x ops. goes (passes count x) ops) top.old rest.now top.new rest.now result }
 {
     top.pass(count)?;
-    Ok(None)
+    Ok(Went::On)
 }
 
 /// Goes back.
-pub(crate) fn back(count: u32, top: &mut Top, rest: &Private) -> Result<Option<Head>, AllocError>
+pub(crate) fn back(count: u32, top: &mut Top, rest: &Private) -> Result<Went, AllocError>
     ensures { Steps (λ x ops. goes (goes_back count x) ops) top.old rest.now top.new rest.now result }
 {
     top.go_back(count)?;
-    Ok(None)
+    Ok(Went::On)
 }
 
 /// Takes a value; at zero passes instructions.
@@ -38,11 +39,11 @@ pub(crate) fn skip_if_zero(
     count: u32,
     top: &mut Top,
     rest: &mut Private,
-) -> Result<Option<Head>, AllocError>
+) -> Result<Went, AllocError>
     ensures { Steps (does (Instr.SkipIfZero count)) top.old rest.old top.new rest.new result }
 {
     let Some(value) = rest.operands.pop() else {
-        return missing();
+        return Err(AllocError);
     };
     match is_zero(value) {
         Ok(true) => skip(count, top, rest),
@@ -52,11 +53,11 @@ pub(crate) fn skip_if_zero(
 }
 
 /// Takes the left operand of `&&`; at zero the whole is 0, and the right one is passed.
-pub(crate) fn and(count: u32, top: &mut Top, rest: &mut Private) -> Result<Option<Head>, AllocError>
+pub(crate) fn and(count: u32, top: &mut Top, rest: &mut Private) -> Result<Went, AllocError>
     ensures { Steps (does (Instr.And count)) top.old rest.old top.new rest.new result }
 {
     let Some(value) = rest.operands.pop() else {
-        return missing();
+        return Err(AllocError);
     };
     match is_zero(value) {
         Ok(true) => {
@@ -69,11 +70,11 @@ pub(crate) fn and(count: u32, top: &mut Top, rest: &mut Private) -> Result<Optio
 }
 
 /// Takes the left operand of `||`; at any value but zero the whole is 1, and the right one is passed.
-pub(crate) fn or(count: u32, top: &mut Top, rest: &mut Private) -> Result<Option<Head>, AllocError>
+pub(crate) fn or(count: u32, top: &mut Top, rest: &mut Private) -> Result<Went, AllocError>
     ensures { Steps (does (Instr.Or count)) top.old rest.old top.new rest.new result }
 {
     let Some(value) = rest.operands.pop() else {
-        return missing();
+        return Err(AllocError);
     };
     match is_zero(value) {
         Ok(true) => go(top, rest),
@@ -86,11 +87,11 @@ pub(crate) fn or(count: u32, top: &mut Top, rest: &mut Private) -> Result<Option
 }
 
 /// Takes a value, and puts 0 where it is zero, else 1.
-pub(crate) fn test(top: &mut Top, rest: &mut Private) -> Result<Option<Head>, AllocError>
+pub(crate) fn test(top: &mut Top, rest: &mut Private) -> Result<Went, AllocError>
     ensures { Steps (does Instr.Truth) top.old rest.old top.new rest.new result }
 {
     let Some(value) = rest.operands.pop() else {
-        return missing();
+        return Err(AllocError);
     };
     match is_zero(value) {
         Ok(true) => put(truth(false), top, rest),
@@ -104,11 +105,11 @@ pub(crate) fn back_if_not_zero(
     count: u32,
     top: &mut Top,
     rest: &mut Private,
-) -> Result<Option<Head>, AllocError>
+) -> Result<Went, AllocError>
     ensures { Steps (does (Instr.BackIfNotZero count)) top.old rest.old top.new rest.new result }
 {
     let Some(value) = rest.operands.pop() else {
-        return missing();
+        return Err(AllocError);
     };
     match is_zero(value) {
         Ok(true) => go(top, rest),

@@ -6,9 +6,10 @@ ghost use Rattle.kt_code.specs.Machine.{unary, binary};
 ghost use Rattle.kt_exec.specs.Apart.{Steps};
 ghost use Rattle.kt_exec.specs.Operations.{of_one, of_two};
 
-use crate::stack::{give_back, missing, put};
+use crate::stack::{give_back, put};
 use crate::top::Top;
-use kt_code::{Head, Instr, Private};
+use crate::went::Went;
+use kt_code::{Instr, Private};
 use kt_mem::{
     Trap, Value, add, add_elements, div, elements_between, equal, greater, greater_equal, less,
     less_equal, mul, narrow, not, not_equal, rem, sub, sub_elements,
@@ -78,11 +79,11 @@ pub(crate) fn operate_on_one(
     instr: &Instr,
     top: &mut Top,
     rest: &mut Private,
-) -> Result<Option<Head>, AllocError>
+) -> Result<Went, AllocError>
     ensures { Steps (unary (of_one instr.now)) top.old rest.old top.new rest.new result }
 {
     let Some(a) = rest.operands.pop() else {
-        return missing();
+        return Err(AllocError);
     };
     match value_of_one(instr, a) {
         Ok(value) => put(value, top, rest),
@@ -95,14 +96,14 @@ pub(crate) fn operate_on_two(
     instr: &Instr,
     top: &mut Top,
     rest: &mut Private,
-) -> Result<Option<Head>, AllocError>
+) -> Result<Went, AllocError>
     ensures { Steps (binary (of_two instr.now)) top.old rest.old top.new rest.new result }
 {
     let Some(b) = rest.operands.pop() else {
-        return missing();
+        return Err(AllocError);
     };
     let Some(a) = rest.operands.pop() else {
-        return give_back(b, Trap::Uninit, &mut rest.operands);
+        return Err(AllocError);
     };
     match value_of_two(instr, a, b) {
         Ok(value) => put(value, top, rest),

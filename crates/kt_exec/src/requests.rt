@@ -219,7 +219,7 @@ pub(crate) fn ask(
 {
     let count = operand_count(request);
     if rest.operands.len() < count {
-        return Ok(Head::Trap(Trap::Uninit));
+        return Err(AllocError);
     }
     match act_of(alloc, top.function(), request, rest.operands.last(count))? {
         Ok(act) => Ok(Head::Act(act)),

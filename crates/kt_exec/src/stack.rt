@@ -1,31 +1,21 @@
 //! Values put and taken.
-ghost use Rattle.std.specs.Prelude.{◌≡◌, ◌∷◌, Err, Ok, Some, IfOk, OnOk};
+ghost use Rattle.std.specs.Prelude.{◌≡◌, ◌∷◌, IfOk, OnOk};
 ghost use Rattle.kt_code.specs.Machine.{goes};
 ghost use Rattle.kt_exec.specs.Apart.{Steps, does};
 
 use crate::top::Top;
-use kt_code::{Head, Instr, Operands, Private};
+use crate::went::Went;
+use kt_code::{Instr, Operands, Private};
 use kt_mem::{Trap, Value};
 use std::alloc::AllocError;
 
 /// Puts a value.
-pub(crate) fn put(
-    value: Value,
-    top: &mut Top,
-    rest: &mut Private,
-) -> Result<Option<Head>, AllocError>
+pub(crate) fn put(value: Value, top: &mut Top, rest: &mut Private) -> Result<Went, AllocError>
     ensures { Steps (λ x ops. goes x (value ∷ ops)) top.old rest.old top.new rest.new result }
 {
     top.next()?;
     rest.operands.push(value)?;
-    Ok(None)
-}
-
-/// The trap where an operand is missing.
-pub(crate) fn missing() -> Result<Option<Head>, AllocError>
-    ensures { result ≡ Ok (Some (Head.Trap Trap.Uninit)) }
-{
-    Ok(Some(Head::Trap(Trap::Uninit)))
+    Ok(Went::On)
 }
 
 /// The trap; the value that was taken is put back.
@@ -33,31 +23,31 @@ pub(crate) fn give_back(
     value: Value,
     trap: Trap,
     operands: &mut Operands,
-) -> Result<Option<Head>, AllocError>
+) -> Result<Went, AllocError>
     ensures operands { OnOk result (operands.new ≡ value ∷ operands.old) }
-    ensures trap { IfOk result (λ head. head ≡ Some (Head.Trap trap)) }
+    ensures trap { IfOk result (λ went. went ≡ Went.Trap trap) }
 {
     operands.push(value)?;
-    Ok(Some(Head::Trap(trap)))
+    Ok(Went::Trap(trap))
 }
 
 /// Takes a value.
-pub(crate) fn discard(top: &mut Top, rest: &mut Private) -> Result<Option<Head>, AllocError>
+pub(crate) fn discard(top: &mut Top, rest: &mut Private) -> Result<Went, AllocError>
     ensures { Steps (does Instr.Discard) top.old rest.old top.new rest.new result }
 {
     let Some(_) = rest.operands.pop() else {
-        return missing();
+        return Err(AllocError);
     };
     top.next()?;
-    Ok(None)
+    Ok(Went::On)
 }
 
 /// Puts the topmost value once more.
-pub(crate) fn duplicate(top: &mut Top, rest: &mut Private) -> Result<Option<Head>, AllocError>
+pub(crate) fn duplicate(top: &mut Top, rest: &mut Private) -> Result<Went, AllocError>
     ensures { Steps (does Instr.Duplicate) top.old rest.old top.new rest.new result }
 {
     let Some(value) = rest.operands.pop() else {
-        return missing();
+        return Err(AllocError);
     };
     rest.operands.push(value)?;
     put(value, top, rest)

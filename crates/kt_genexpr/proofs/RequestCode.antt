@@ -9,15 +9,14 @@ use Rattle.kt_types.specs.Table.{Table}
 use Rattle.kt_mem.specs.declared.memory.Value.{Value}
 use Rattle.kt_mem.specs.declared.memory.Value.TheVariants.{Num}
 use Rattle.kt_mem.specs.declared.steps.Act.TheVariants as act
-use Rattle.kt_mem.specs.declared.steps.Trap.TheVariants as trap
 use Rattle.kt_tree.specs.declared.expr.Part.{Part}
 use Rattle.kt_tree.specs.declared.expr.Part.TheVariants as part
 use Rattle.kt_tree.specs.declared.expr.Request.{Request}
 use Rattle.kt_tree.specs.declared.expr.Request.TheVariants as request
 use Rattle.kt_tree.specs.Kinds.{Scope, char_type, int_type, long_type, is_integer, is_scalar, points_to, takes, is_request}
-use Rattle.kt_meaning.specs.Steps.{Step, Acts, Traps}
+use Rattle.kt_meaning.specs.Steps.{Step, Acts}
 use Rattle.kt_meaning.specs.Requests.{load_act, store_act, act_of, told}
-use Rattle.kt_code.specs.Machine.{Here, stands, on_list, asks, do_one}
+use Rattle.kt_code.specs.Machine.{Here, stands, stuck, on_list, asks, do_one}
 use Rattle.kt_code.specs.Requests.{untyped, part_count, operand_count}
 use Rattle.kt_code.specs.declared.private.Private.{Private}
 use Rattle.kt_genexpr.specs.ExpressionCode.{or_char, request_code}
@@ -30,7 +29,7 @@ pub on-all : (f : List Value → List Value → Step Private) (n : ℕ) (us rest
 on-all f n us rest e =
     let long = length-append us rest in
     let enough : nat_le n (length (us ++ rest)) ≡ true = grind (arith, nat_tests, long) in
-    ap (λ b. if b then f (reverse (take n (us ++ rest))) (drop n (us ++ rest)) else Traps trap.Uninit) enough
+    ap (λ b. if b then f (reverse (take n (us ++ rest))) (drop n (us ++ rest)) else stuck) enough
     ∙ ap (λ k. f (reverse (take k (us ++ rest))) (drop k (us ++ rest))) e
     ∙ ap (λ l. f (reverse l) (drop (length us) (us ++ rest))) (take-append_seam us rest)
     ∙ ap (λ l. f (reverse us) l) (drop-append_seam us rest)

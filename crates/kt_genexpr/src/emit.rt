@@ -11,7 +11,8 @@ use kt_tree::{Expr, Version};
 use sqlite_items::{Boxed, Items};
 use std::alloc::{AllocError, Global};
 
-/// Puts the instructions of an expression of the version behind others, the last one first.
+/// Puts the instructions of an expression of the version behind others, the last one first: the compiler's part for
+/// expressions.
 #[cycle(emit)]
 pub fn emit_expr(
     alloc: Global,
@@ -106,8 +107,8 @@ fn emit_operands(
     Ok(())
 }
 
-// Puts one instruction behind others.
-fn put(out: &mut Vec<Instr>, instr: Instr) -> Result<(), AllocError>
+/// Puts one instruction behind others.
+pub fn put(out: &mut Vec<Instr>, instr: Instr) -> Result<(), AllocError>
     ensures { OnOk result (out.new.items ≡ out.old.items ++ instr ∷ []) }
 {
     out.push(instr)?;

@@ -1,7 +1,7 @@
 //! The call that adds the code of an expression.
-ghost use Rattle.std.specs.Prelude.{◌≡◌, ◌++◌, OnOk};
+ghost use Rattle.std.specs.Prelude.{◌≡◌, OnOk};
 ghost use Rattle.kt_tree.specs.Tree.{expression_of};
-ghost use Rattle.kt_genexpr.specs.Emitting.{HasKind, code_in};
+ghost use Rattle.kt_genexpr.specs.Emitting.{HasKind};
 ghost use Rattle.kt_genexpr.specs.Generates.{Generates};
 
 use crate::emit::emit_expr;
@@ -20,10 +20,11 @@ pub fn gen_expr(
     out: &mut Code,
 ) -> Result<(), AllocError>
     requires { HasKind version.now function (expression_of expr.now) }
-    ensures code { OnOk result (out.new ≡ record out.old { instrs = out.old.instrs ++ code_in version.now (expression_of expr.now) }) }
     ensures generates { OnOk result (Generates version.now (expression_of expr.now) out.old.instrs out.new.instrs) }
+    ensures others { OnOk result (out.new ≡ record out.old { instrs = out.new.instrs }) }
 {
     expression_law(version);
+    // Tells where the jumps of the code before lead.
     let _ = out.instrs();
     let mut instrs = Vec::new(alloc);
     emit_expr(alloc, version, expr, &mut instrs)?;

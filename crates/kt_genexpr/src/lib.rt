@@ -8,6 +8,6 @@ mod generate;
 mod laws;
 mod resolve;
 
-pub use emit::emit_expr;
+pub use emit::{emit_expr, put};
 pub use generate::gen_expr;
 pub use laws::{exact_law, expression_law};

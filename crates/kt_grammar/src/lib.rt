@@ -30,6 +30,7 @@ pub use levels::{begins_expr, expr, stuck};
 pub use local::expr_local_law;
 pub use operator::{AssignOperator, BinaryOperator, Dialect, PrefixOperator, StepOperator};
 pub use sign::Sign;
+pub use spelled::is_identifier;
 pub use sign_of::{assign_of, binary_of, precedence, prefix_of, step_of};
 pub use stands::{expr_fault_law, expr_goes_on_law, expr_stands_law};
 pub use stands_for::symbols;

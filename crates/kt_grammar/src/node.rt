@@ -142,18 +142,12 @@ fn both<A: Drop, B: Drop>(
 ) -> Result<(A, B), AllocError>
     ensures { IfOk result (λ p. (a ≡ Ok p.0) × (b ≡ Ok p.1)) }
 {
-    match (a, b) {
-        (Ok(a), Ok(b)) => Ok((a, b)),
-        _ => Err(AllocError),
-    }
+    Ok((a?, b?))
 }
 
 // The value in a box. Where there is no memory, it is let go here, and not by each caller.
 fn boxed<T: Drop>(alloc: Global, x: T) -> Result<Boxed<T>, AllocError>
     ensures { IfOk result (λ b. b ≡ x) }
 {
-    match Boxed::new(alloc, x) {
-        Ok(b) => Ok(b),
-        Err(_) => Err(AllocError),
-    }
+    Ok(Boxed::new(alloc, x)?)
 }

@@ -158,7 +158,7 @@ fn is_word(first: u8, word: &[u8]) -> bool
 }
 
 /// Whether the bytes are an identifier.
-pub(crate) fn is_identifier(word: &[u8]) -> bool
+pub fn is_identifier(word: &[u8]) -> bool
     ensures { result ≡ is_identifier word.now }
 {
     match word {

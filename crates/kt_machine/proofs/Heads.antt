@@ -57,18 +57,18 @@ tested-placed (Ok false) s t h k = k
 tested-placed (Err e) s t h k = tt
 
 top-placed : (f : Value → List Value → Step Private) (ops : List Value) → ((v : Value) (rest : List Value) → IsPlaced (f v rest)) → IsPlaced (on_top f ops)
-top-placed f [] h = tt
+top-placed f [] h = refl
 top-placed f (v ∷ ops) h = h v ops
 
 two-placed : (f : Value → Value → List Value → Step Private) (ops : List Value) → ((a b : Value) (rest : List Value) → IsPlaced (f a b rest)) →
     IsPlaced (on_two f ops)
-two-placed f [] h = tt
-two-placed f (b ∷ []) h = tt
+two-placed f [] h = refl
+two-placed f (b ∷ []) h = refl
 two-placed f (b ∷ a ∷ ops) h = h a b ops
 
 list-placed : (n : ℕ) (f : List Value → List Value → Step Private) (ops : List Value) → ((vs rest : List Value) → IsPlaced (f vs rest)) →
     IsPlaced (on_list n f ops)
-list-placed n f ops h = if-placed (nat_le n (length ops)) _ _ (h _ _) tt
+list-placed n f ops h = if-placed (nat_le n (length ops)) _ _ (h _ _) refl
 
 abbrev Takes : Result Act Trap → Type 0
 Takes (Ok a) = takes_reply a ≡ true
@@ -167,11 +167,11 @@ instr-placed entries instr.Leave x ops = leaves-placed x ops x.below
 instr-placed entries instr.NoValue x ops = tt
 
 at-placed : (entries : List ℕ) (o : Option Instr) (x : Here) (ops : List Value) → IsPlaced (instr_step entries o x ops)
-at-placed entries None x ops = tt
+at-placed entries None x ops = refl
 at-placed entries (Some i) x ops = instr-placed entries i x ops
 
 frames-placed : (c : Code) (x : Private) (frames : List Frame) → IsPlaced (frames_step c.instrs c.entries x frames)
-frames-placed c x [] = tt
+frames-placed c x [] = refl
 frames-placed c x (f ∷ below) = at-placed c.entries (slice_get c.instrs f.at) _ x.operands
 
 pub step-placed : (o : Option Pair) (x : Private) → IsPlaced (code_step o x)

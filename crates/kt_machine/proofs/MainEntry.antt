@@ -1,5 +1,5 @@
 -- The entry of `main` in code fits the code.
-use Rattle.std.proofs.Common.{◌≡◌, ℕ, zero, suc, List, [], map, take, codes, slice_get, Option, Some, None, Result, Ok, Err, IfOk, refl, sym, ap, subst, ◌∙◌, inr}
+use Rattle.std.proofs.Common.{◌≡◌, ℕ, List, [], map, take, codes, slice_get, Option, Some, None, Result, Ok, Err, IfOk, refl, sym, ap, subst, ◌∙◌, inr}
 use Rattle.kt_types.specs.declared.kinds.FieldDecl.{FieldDecl}
 use Rattle.kt_mem.specs.declared.thread.Mode.{Mode}
 use Rattle.kt_tree.specs.Names.{place_of}
@@ -9,19 +9,13 @@ use Rattle.kt_meaning.specs.Laws.{numbered}
 use Rattle.kt_meaning.specs.ThreadTypes.{IsMode}
 use Rattle.kt_meaning.specs.Values.{AreAt}
 use Rattle.kt_code.specs.Code.{Code}
-use Rattle.kt_code.specs.Settling.{settle, Fits}
+use Rattle.kt_code.specs.Settling.{Fits}
 use Rattle.kt_code.specs.declared.private.Private.{Private}
 use Rattle.kt_pair.specs.Pair.{Pair}
-use Rattle.kt_pair.specs.VersionActs.{FitsEntries}
+use Rattle.kt_pair.specs.VersionActs.{DoesVersion, FitsEntries}
 use Rattle.kt_world.specs.Turn.{main_of, main_at, restart_in}
 use Rattle.kt_world.specs.TypedThreads.{main-place}
-use Rattle.kt_machine.specs.Engine.{code_entry, entry_at, entry_of, no_frames}
-
--- without a frame a state steps to a trap
-pub no_frames-fits : (c : Code) (v : ℕ) (mode : Mode) → Fits c (no_frames v mode)
-unfolding settle
-no_frames-fits c v mode zero = tt
-no_frames-fits c v mode (suc n) = tt
+use Rattle.kt_machine.specs.Engine.{code_entry, entry_at, entry_of}
 
 -- what `main_of` finds
 main-is : (p : Program) (h : IsProgram p) → main_of p ≡ Some (h.main.0, h.main.1)
@@ -29,9 +23,9 @@ main-is p h =
     ap (main_at p) (main-place p h (place_of (codes "main") (function_names p)) refl)
     ∙ ap (λ (q : Option Function). elim q as (λ _. Option (ℕ × Function)) [ None ↦ None | (Some f) ↦ Some (h.main.0, f) ]) h.main.2
 
-module _ (p : Pair) (h : IsProgram p.program) (fits : (n : ℕ) → FitsEntries (numbered p.program n) p.code) (v : ℕ) (mode : Mode) (i : IsMode p.program mode) where
+module _ (p : Pair) (h : IsProgram p.program) (does : (n : ℕ) → DoesVersion (numbered p.program n) p.code) (fits : (n : ℕ) → FitsEntries (numbered p.program n) p.code) (v : ℕ) (mode : Mode) (i : IsMode p.program mode) where
   at-place : (o : Option ℕ) → slice_get p.code.entries h.main.0 ≡ o → Fits p.code (entry_at v mode h.main.0 h.main.1 o)
-  at-place None e = no_frames-fits p.code v mode
+  at-place None e = let there = (does v h.main.0 h.main.1 h.main.2).entry_is in absurd cc
   at-place (Some at) e =
       let none : take h.main.1.params h.main.1.locals ≡ [] = ap (λ n. take n h.main.1.locals) h.main.3.2 in
       fits v h.main.0 at h.main.1 [] (restart_in mode) h.main.2 e (inr h.main.3.1)

@@ -17,7 +17,8 @@ use Rattle.kt_code.specs.Machine as code
 use Rattle.kt_code.specs.SameActs.{Stand, settled-stand, same_acts-reply}
 use Rattle.kt_code.specs.Settling.{weight, settle, FitsHead, FitsFor, Fits}
 use Rattle.kt_code.specs.declared.private.Private.{Private}
-use Rattle.kt_exec.proofs.Settled.{settle-rests, fits-same}
+use Rattle.kt_code.proofs.Fitting.{fits-head-is, fits-settled}
+use Rattle.kt_exec.proofs.Settled.{settle-rests}
 use Rattle.kt_pair.specs.Pair.{Pair}
 use Rattle.kt_machine.specs.Same.{IsSameIn, IsSameMode}
 
@@ -47,21 +48,12 @@ code-reaches c y = reaches (code.step c) (weight c y) y
 
 -- ---- what fits code
 
-fits-head : (P : Private → Type 0) (s : Step Private) → FitsHead P s → IsHead s
-fits-head P (Quiet y) h = absurd h
-fits-head P (Acts a go) h = tt
-fits-head P (Traps t) h = tt
-fits-head P (Ends a) h = tt
-
 -- what fits code settles
 settled-head : (c : Code) (y : Private) → Fits c y → IsHead (code.step c (settle c y))
-settled-head c y h = fits-head (FitsFor c 0) (code.step c (settle c y)) (h 1)
-
-settled-fits : (c : Code) (y : Private) → Fits c y → Fits c (settle c y)
-settled-fits c y h = fits-same c y (settle c y) (sym (settle-rests c (settle c y) (settled-head c y h))) h
+settled-head c y h = fits-head-is (FitsFor c 0) (code.step c (settle c y)) ((h 1).1)
 
 fits-here : (c : Code) (y : Private) (n : ℕ) → IsHead (code.step c y) → Fits c y → FitsHead (FitsFor c n) (code.step c y)
-fits-here c y n head h = subst (λ z. FitsHead (FitsFor c n) (code.step c z)) (settle-rests c y head) (h (suc n))
+fits-here c y n head h = subst (λ z. FitsHead (FitsFor c n) (code.step c z)) (settle-rests c y head) ((h (suc n)).1)
 
 -- and fits after a reply
 replied-fits : (c : Code) (y : Private) (s : Step Private) (r : Reply) → code.step c y ≡ s → IsHead (code.step c y) → IsReplyTo s r → Fits c y →
@@ -138,7 +130,7 @@ module _ (v : ℕ) (c : Pair) where
       record {
         acts = settled-same (tree_threads version) (code_threads c.code) there.count reached.count x (weights.settle version x) y (settle c.code y)
             there.comes there.head reached.comes head acts;
-        fits = settled-fits c.code y fits;
+        fits = fits-settled c.code y fits;
         tree_settled = there.head;
         code_settled = head;
       }

@@ -1,5 +1,5 @@
 //! The state at which `main` begins.
-ghost use Rattle.std.specs.Prelude.{◌≡◌, [], Some, IfOk, slice_get};
+ghost use Rattle.std.specs.Prelude.{◌≡◌, [], Some, IfOk};
 ghost use Rattle.std.specs.Option.{option_map};
 ghost use Rattle.kt_tree.specs.Tree.{function_of};
 ghost use Rattle.kt_meaning.specs.ThreadTypes.{IsMode};
@@ -9,14 +9,14 @@ ghost use Rattle.kt_pair.specs.VersionActs.{entry_state};
 ghost use Rattle.kt_world.specs.Turn.{main_of, restart_in};
 ghost use Rattle.kt_machine.specs.Engine.{code_entry, no_frames};
 
-use kt_code::{Code, Frame, Frames, Head, Operands, Private};
+use kt_code::{Frame, Frames, Head, Operands, Private};
 use kt_exec::settle;
 use kt_mem::{KeptLocals, Mode, Value, Values};
 use kt_pair::{Compiled, compiled_law};
 use kt_tree::{Fun, Version, version_law};
 use std::alloc::{AllocError, Global};
 
-/// The state at which `main` of version `v` begins in this mode.
+/// The state at which `main` of version `v` begins in this mode. A version has a `main`, and code of it has its entry.
 fn enter_main(alloc: Global, v: u8, compiled: &Compiled, mode: Mode) -> Result<Private, AllocError>
     requires mode { IsMode compiled.now.program mode }
     ensures entry { IfOk result (λ p. p ≡ code_entry v mode (Some compiled.now)) }
@@ -25,11 +25,11 @@ fn enter_main(alloc: Global, v: u8, compiled: &Compiled, mode: Mode) -> Result<P
     version_law(compiled.version());
     compiled_law(compiled);
     let Some((number, function)) = main_of(compiled.version()) else {
-        return Ok(no_frames(alloc, v, mode));
+        return Err(AllocError);
     };
-    match entry(compiled.code(), number) {
+    match compiled.entry(number) {
         Some(at) => entry_state(alloc, v, at, number, function, mode),
-        None => Ok(no_frames(alloc, v, mode)),
+        None => Err(AllocError),
     }
 }
 
@@ -62,13 +62,6 @@ fn main_of(version: &Version) -> Option<(u32, &Fun)>
     let number = version.function(b"main")?;
     let function = version.functions().get(number as usize)?;
     Some((number, function))
-}
-
-/// Where the code of a function begins.
-fn entry(code: &Code, number: u32) -> Option<u32>
-    ensures { result ≡ slice_get code.now.entries number }
-{
-    code.entries().get(number as usize).copied()
 }
 
 /// The state at the entry of a function without parameters, whose code begins at this place.

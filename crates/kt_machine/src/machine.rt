@@ -143,10 +143,7 @@ fn both<A: Drop, B: Drop>(
 ) -> Result<(A, B), AllocError>
     ensures { IfOk result (λ p. (a ≡ Ok p.0) × (b ≡ Ok p.1)) }
 {
-    match (a, b) {
-        (Ok(a), Ok(b)) => Ok((a, b)),
-        _ => Err(AllocError),
-    }
+    Ok((a?, b?))
 }
 
 /// Before anything is tried: `main` stands at its first act, trap or end.

@@ -1,5 +1,5 @@
 //! A version and its code.
-ghost use Rattle.std.specs.Prelude.{◌≡◌};
+ghost use Rattle.std.specs.Prelude.{◌≡◌, slice_get};
 ghost use Rattle.kt_meaning.specs.Laws.{numbered};
 ghost use Rattle.kt_pair.specs.VersionActs.{DoesVersion, EntriesLookAlike, FitsEntries};
 
@@ -45,6 +45,13 @@ impl Compiled {
         ensures { result.now ≡ self.now.program }
     {
         &self.version
+    }
+
+    /// Where the code of a function of the version begins.
+    pub fn entry(&self, function: u32) -> Option<u32>
+        ensures { result ≡ slice_get self.now.code.entries function }
+    {
+        self.code.entry(function)
     }
 
     /// The version's code.

@@ -1,24 +1,18 @@
-use Rattle.std.proofs.Common.{◌≡◌, [], ◌∷◌, sym, ap, subst, ◌∙◌}
+use Rattle.std.proofs.Common.{◌≡◌, ◌∷◌, sym, ap, subst, ◌∙◌}
 use Rattle.kt_code.specs.Settling.{Fits, settle}
 use Rattle.kt_exec.specs.Apart.{whole}
-use Rattle.kt_exec.proofs.Settled.{settle-without-frame, fits-stands}
+use Rattle.kt_exec.proofs.Settled.{fits-stands}
 use Rattle.kt_exec.proofs.settling.settle.Goals as goal
-
-pub returns-in_default-clause-stands : goal.returns-in_default-clause-stands
-returns-in_default-clause-stands c =
-    let p = c.args.private.now in
-    let e : (p.frames ≡ []) × (c.pop.new.self ≡ []) = rw c.in_default.is at c.pop.ensures in
-    ap (λ frames. record p { frames = frames }) (e.1 ∙ sym (e.0)) ∙ sym (settle-without-frame c.args.code.now p (e.0))
 
 pub returns-in-Ok-clause-fits : goal.returns-in-Ok-clause-fits
 returns-in-Ok-clause-fits c =
     let p = c.args.private.now in
     let code = c.args.code.now in
-    let rest = c.run.new.rest in
-    let q = whole c.run.new.top rest in
+    let rest = c.settle_apart.new.rest in
+    let q = whole c.settle_apart.new.top rest in
     let popped : p.frames ≡ c.in-Some.frame ∷ c.pop.new.self = rw c.in-Some.is at c.pop.ensures in
     let before : whole c.from_frame-top.result (record p { frames = c.pop.new.self }) ≡ p =
     ap (λ frames. record p { frames = frames }) (ap (λ f. f ∷ c.pop.new.self) c.from_frame-top.ensures ∙ sym popped) in
-    let fits = fits-stands code p q c.in_ok-head.head (c.in_ok-head.ensures.stands ∙ ap (settle code) before) c.in_ok-head.ensures.head c.requires in
+    let fits = fits-stands code p q (c.in_ok-head.ensures.stands ∙ ap (settle code) before) c.requires in
     subst (λ frames. Fits code (record rest { frames = frames }))
     (sym (c.in-Ok.ensures.ok ∙ ap (λ f. f ∷ rest.frames) c.into_frame.ensures)) fits
