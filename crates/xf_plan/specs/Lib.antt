@@ -1,0 +1,11 @@
+pub mod Bodies
+pub mod Plan
+pub mod Correspondence
+pub mod Sources
+pub mod RuleCode
+pub mod PreValues
+pub mod Extents
+pub mod Spots
+pub mod Reached
+pub mod Images
+pub mod Rows
