@@ -180,6 +180,10 @@ act-only f g h only (act.Unlock p) e =
 act-only f g h only (act.InitMutex p) e =
     let same : rename_value f p ≡ rename_value g p = cc in ap act.InitMutex (value-only f g h only p same)
 act-only f g h only act.GetChar e = refl
+act-only f g h only (act.Wait p) e =
+    let same : rename_value f p ≡ rename_value g p = cc in ap act.Wait (value-only f g h only p same)
+act-only f g h only (act.Signal p all) e =
+    let same : rename_value f p ≡ rename_value g p = cc in ap (λ q. act.Signal q all) (value-only f g h only p same)
 act-only f g h only (act.Print ps) e =
     let same : rename_pieces f ps ≡ rename_pieces g ps = cc in
     ap act.Print (list-only (rename_piece f) (rename_piece g) (rename_piece h) (piece-only f g h only) ps same)

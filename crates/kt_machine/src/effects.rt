@@ -51,7 +51,9 @@ pub fn effect(
             let reply = outside.print(pieces.as_slice())?;
             Ok(Outcome::Replies(reply))
         }
-        Act::Create(..)
+        Act::Wait(_)
+        | Act::Signal(..)
+        | Act::Create(..)
         | Act::Join(_)
         | Act::Point(_)
         | Act::Automigrate

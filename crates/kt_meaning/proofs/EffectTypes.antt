@@ -359,6 +359,8 @@ effect-IsOutcomeOf types thread (act.InitMutex p) s i =
     leaves-outcome s (act.InitMutex p) (init_mutex s.memory p) refl refl
     (λ e h. change-traps s.memory p ty.Mutex initialised (trap.Mutex ∷ []) e (λ v g. initialised-traps v e g) h)
 effect-IsOutcomeOf types thread act.GetChar s i = byte-outcome s s.input i.input
+effect-IsOutcomeOf types thread (act.Wait p) s i = tt
+effect-IsOutcomeOf types thread (act.Signal p all) s i = tt
 effect-IsOutcomeOf types thread (act.Print ps) s i = writes-outcome s ps i
 effect-IsOutcomeOf types thread (act.Create f v) s i = tt
 effect-IsOutcomeOf types thread (act.Join n) s i = tt

@@ -251,6 +251,8 @@ effect-LeavesShared program types thread (act.Unlock p) s h i =
 effect-LeavesShared program types thread (act.InitMutex p) s h i =
     leaves-shared s (init_mutex s.memory p) i (λ m g. change-IsTyped s.memory p ty.Mutex initialised m i.memory initialised-typed g)
 effect-LeavesShared program types thread act.GetChar s h i = byte-shared s s.input i i.input
+effect-LeavesShared program types thread (act.Wait p) s h i = tt
+effect-LeavesShared program types thread (act.Signal p all) s h i = tt
 effect-LeavesShared program types thread (act.Print ps) s h i = writes-shared s (pieces_text s.memory ps) i
 effect-LeavesShared program types thread (act.Create f v) s h i = tt
 effect-LeavesShared program types thread (act.Join n) s h i = tt

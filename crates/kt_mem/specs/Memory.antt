@@ -109,7 +109,14 @@ abbrev pub initialised : Value → Result Value Trap
 initialised (Held holder) = Err trap.Mutex
 initialised _ = Ok Free
 
--- the memory after a lock, an unlock and an init: `null`, `dead`, `bounds`, `uninit` (not at an init), `mutex`
+-- a signal leaves the mutex as it is
+abbrev pub signalled : Value → Result Value Trap
+signalled Free = Ok Free
+signalled (Held holder) = Ok (Held holder)
+signalled _ = Err trap.Uninit
+
+-- the memory after a lock, an unlock, an init and a signal: `null`, `dead`, `bounds`, `uninit` (not at an init), `mutex` (not at a
+-- signal). A wait leaves what an unlock does.
 abbrev pub lock : Memory → ℕ → Value → Result Memory Trap
 lock m thread p = written m p ty.Mutex (and_then (value_at m p ty.Mutex) (locked thread))
 
@@ -118,6 +125,9 @@ unlock m thread p = written m p ty.Mutex (and_then (value_at m p ty.Mutex) (unlo
 
 abbrev pub init_mutex : Memory → Value → Result Memory Trap
 init_mutex m p = written m p ty.Mutex (and_then (value_at m p ty.Mutex) initialised)
+
+abbrev pub signal : Memory → Value → Result Memory Trap
+signal m p = written m p ty.Mutex (and_then (value_at m p ty.Mutex) signalled)
 
 -- a lock waits: another thread holds the mutex
 abbrev pub held_by_other : ℕ → Result Value Trap → Bool

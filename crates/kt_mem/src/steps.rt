@@ -85,6 +85,12 @@ pub enum Act {
     /// The mutex at a pointer is made free.
     InitMutex(Value),
 
+    /// The mutex at a pointer is let go, and its condition is waited for.
+    Wait(Value),
+
+    /// The condition of the mutex at a pointer is signalled: to all who wait for it, or to one of them.
+    Signal(Value, bool),
+
     /// The next input byte is taken.
     GetChar,
 

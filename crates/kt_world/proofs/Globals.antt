@@ -163,6 +163,8 @@ effect-globals types thread (act.Unlock p) s =
 effect-globals types thread (act.InitMutex p) s =
     leaves-globals s (init_mutex s.memory p) (λ m is. effect_on-globals s.memory m (Inits p) is)
 effect-globals types thread act.GetChar s = byte-globals s s.input
+effect-globals types thread (act.Wait p) s = tt
+effect-globals types thread (act.Signal p all) s = tt
 effect-globals types thread (act.Print ps) s = writes-globals s (pieces_text s.memory ps)
 effect-globals types thread (act.MigrateLocal f n) s = globals-stay s.memory
 effect-globals types thread (act.UpdatingTest n) s = globals-stay s.memory
