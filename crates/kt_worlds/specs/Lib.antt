@@ -1,0 +1,9 @@
+pub mod Job
+pub mod World
+pub mod Waiting
+pub mod Acts
+pub mod Roots
+pub mod Refusals
+pub mod Update
+pub mod Events
+pub mod Turns
