@@ -7,3 +7,5 @@ pub mod Refusals
 pub mod Update
 pub mod Events
 pub mod Turns
+pub mod Scripts
+pub mod Rows
