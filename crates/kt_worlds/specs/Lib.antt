@@ -9,3 +9,5 @@ pub mod Events
 pub mod Turns
 pub mod Scripts
 pub mod Rows
+pub mod Trees
+pub mod Laws

@@ -2,6 +2,8 @@
 //!
 #![tactic(auto)]
 
+mod laws;
 mod mark;
 
+pub use laws::{refusal_law, rows_law, turns_law};
 pub use mark::{Closed, End, Mark};

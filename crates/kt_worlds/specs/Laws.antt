@@ -1,0 +1,37 @@
+-- Laws of worlds, as statements.
+use Rattle.std.specs.Prelude.{◌≡◌, ◌↔◌, ℕ, suc, ◌≤◌, List, [], ◌∷◌, ◌++◌, length}
+use Rattle.kt_meaning.specs.Thread as tree
+use Rattle.kt_phase.specs.declared.counters.Phase.TheVariants.{Main}
+use Rattle.kt_worlds.specs.declared.mark.Closed.{Closed}
+use Rattle.kt_worlds.specs.Job.{Job}
+use Rattle.kt_worlds.specs.Trees.{AreTurnsOf, tree_engine, world}
+use Rattle.kt_worlds.specs.Turns.{MayTurn, turn}
+use Rattle.kt_worlds.specs.Update.{refused}
+use Rattle.kt_worlds.specs.World.{World}
+
+-- one turn more may be taken exactly where the turns before may be and the thread may take one in their world
+abbrev pub OneMoreMayBeTaken : Type 0
+OneMoreMayBeTaken =
+    (job : Job) (turns : List ℕ) (t : ℕ) →
+    AreTurnsOf job (turns ++ t ∷ []) ↔ (AreTurnsOf job turns × MayTurn (tree_engine job) (world job turns) t)
+
+-- the world of the longer list is one turn of that thread from theirs
+abbrev pub OneMoreIsTheNext : Type 0
+OneMoreIsTheNext = (job : Job) (turns : List ℕ) (t : ℕ) → world job (turns ++ t ∷ []) ≡ turn (tree_engine job) job (world job turns) t
+
+-- while `main` is on its way to its point after an update, no other thread may take a turn
+abbrev pub MainIsAlone : Type 0
+MainIsAlone = (job : Job) (turns : List ℕ) (t : ℕ) → AreTurnsOf job (turns ++ t ∷ []) → (world job turns).shared.phase ≡ Main → t ≡ 0
+
+-- the turns are counted
+abbrev pub TurnsAreCounted : Type 0
+TurnsAreCounted = (job : Job) (turns : List ℕ) → (world job turns).shared.turns ≡ length turns
+
+-- a refused closing changes neither memory nor code
+pub record StaysAtRefusal (job : Job) (c : Closed) (w : World tree.Thread) : Type 0 where
+  pub memory : (refused (tree_engine job) c w).shared.memory ≡ w.shared.memory
+  pub version : (refused (tree_engine job) c w).shared.version ≡ w.shared.version
+  pub kept : (refused (tree_engine job) c w).shared.kept ≡ w.shared.kept
+
+abbrev pub RefusalsChangeNothing : Type 0
+RefusalsChangeNothing = (job : Job) (c : Closed) (w : World tree.Thread) → StaysAtRefusal job c w
