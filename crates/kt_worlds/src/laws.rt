@@ -1,15 +1,16 @@
 //! Laws of worlds, each the contract of a function that does nothing.
 
-ghost use Rattle.kt_worlds.specs.Laws.{MainIsAlone, OneMoreIsTheNext, OneMoreMayBeTaken, RefusalsChangeNothing};
+ghost use Rattle.kt_worlds.specs.Laws.{MainIsAlone, OneMoreIsTheNext, OneMoreMayBeTaken, RefusalsChangeNothing, TurnsAreCounted};
 ghost use Rattle.kt_worlds.specs.Rows.{JoinRow, JoinTraps, RefusalRow, RequestRow, SignalRow, StuckRow, UpdateRow};
 
 /// One turn more is the world's next: a thread may take the next turn exactly where the turns before may be taken and it may
 /// take one in their world, and the world of the longer list is then one turn of it from theirs. While `main` is on its way
-/// to its point after an update, no other thread may take a turn.
+/// to its point after an update, no other thread may take a turn. The turns are counted.
 pub fn turns_law()
     ensures may { OneMoreMayBeTaken }
     ensures next { OneMoreIsTheNext }
     ensures main_alone { MainIsAlone }
+    ensures counted { TurnsAreCounted }
 {}
 
 /// A closing that is refused changes neither memory, nor kept values, nor the version in force.
