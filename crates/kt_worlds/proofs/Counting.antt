@@ -3,7 +3,7 @@ use Rattle.std.specs.Prelude.{◌≡◌, ℕ, pos, suc, ◌+◌, Bool, true, fal
 use Rattle.std.proofs.Common.{ap, ◌∙◌, arith}
 use Rattle.kt_types.specs.Table.{Table}
 use Rattle.kt_mem.specs.declared.memory.Value.{Value}
-use Rattle.kt_mem.specs.declared.memory.Value.TheVariants.{Num, Ptr}
+use Rattle.kt_mem.specs.declared.memory.Value.TheVariants.{Num}
 use Rattle.kt_mem.specs.declared.steps.Act.{Act}
 use Rattle.kt_mem.specs.declared.steps.Act.TheVariants as act
 use Rattle.kt_mem.specs.declared.steps.Reply.{Reply}
@@ -22,15 +22,15 @@ use Rattle.xf_plan.specs.declared.place.Root.{Root}
 use Rattle.kt_worlds.specs.declared.mark.Closed.{Closed}
 use Rattle.kt_worlds.specs.declared.mark.End.{End}
 use Rattle.kt_worlds.specs.declared.mark.End.TheVariants as end
-use Rattle.kt_worlds.specs.Acts.{answered, created, new_thread, with_new, joins, waited, waiting_in, signalled, woken, at_point, migrated, elsewhere, on_outcome, ends, effect, act_of, acted, with_shared}
+use Rattle.kt_worlds.specs.Acts.{answered, created, new_thread, with_new, joins, waited, signalled, at_point, migrated, elsewhere, on_outcome, ends, effect, act_of, acted, with_shared}
 use Rattle.kt_worlds.specs.Events.{ongoing, on_shared, with_mark, end_marked, ended_as, main_is_normal, main_there, all_normal, all_back, all_parked, closed_up, requested, request, asked, stuck, spent, before_turn, after_act}
 use Rattle.kt_worlds.specs.Job.{Job, Passage, passage_at, types_at}
 use Rattle.kt_worlds.specs.Laws.{TurnsAreCounted}
 use Rattle.kt_worlds.specs.Refusals.{refusal}
 use Rattle.kt_worlds.specs.Roots.{thread_roots}
-use Rattle.kt_worlds.specs.Trees.{tree_engine, world}
+use Rattle.kt_worlds.specs.Trees.{tree_engine}
 use Rattle.kt_worlds.specs.Turns.{counted, first_world, start, turn, world_from}
-use Rattle.kt_worlds.specs.Update.{closed_from, closing, decided}
+use Rattle.kt_worlds.specs.Update.{closing, decided}
 use Rattle.kt_worlds.specs.Waiting.{any_enabled, joined}
 use Rattle.kt_worlds.specs.World.{Engine, Shared, Thread, World, with_outside, outside_of}
 

@@ -1,5 +1,5 @@
 -- A longer list of turns goes on from the world of the shorter one.
-use Rattle.std.specs.Prelude.{◌≡◌, ◌↔◌, ℕ, List, [], ◌∷◌, ◌++◌, Option, None, Some, true, ◌&&◌, not, slice_get, refl}
+use Rattle.std.specs.Prelude.{◌≡◌, ℕ, List, [], ◌∷◌, ◌++◌, Option, None, Some, true, ◌&&◌, not, slice_get, refl}
 use Rattle.std.proofs.Common.{subst}
 use Rattle.std.proofs.lemmas.Bool.{false≢true, and_parts, eqb-true}
 use Rattle.kt_phase.specs.declared.counters.Phase.TheVariants.{Main}

@@ -1,6 +1,6 @@
 -- Acts: what a turn of a thread does first. Acts on memory, input and output have the effects of the meaning of threads; the others
 -- are here: threads made and joined, conditions, points, kept values, ends.
-use Rattle.std.specs.Prelude.{ℕ, pos, suc, nat_le, ◌==◌, ◌&&◌, Bool, true, false, List, [], ◌∷◌, ◌++◌, map, length, Option, None, Some, Result, Ok, Err, slice_get, slice_set, if◌then◌else◌}
+use Rattle.std.specs.Prelude.{ℕ, pos, nat_le, ◌==◌, ◌&&◌, Bool, true, false, List, [], ◌∷◌, ◌++◌, map, length, Option, None, Some, Result, Ok, Err, slice_get, slice_set, if◌then◌else◌}
 use Rattle.std.specs.Option.{option_map}
 use Rattle.kt_types.specs.Table.{Table}
 use Rattle.kt_mem.specs.declared.memory.Name.{Name}
@@ -21,7 +21,7 @@ use Rattle.kt_meaning.specs.Effects as outside
 use Rattle.kt_meaning.specs.Effects.{Outcome, Replies, Waits, Elsewhere}
 use Rattle.kt_meaning.specs.Steps.{Step, Quiet, Acts, Traps, Ends, after_reply}
 use Rattle.kt_phase.specs.declared.counters.Phase.{Phase}
-use Rattle.kt_phase.specs.declared.counters.Phase.TheVariants.{Run, Asked, Main, Others}
+use Rattle.kt_phase.specs.declared.counters.Phase.TheVariants.{Run, Asked}
 use Rattle.kt_worlds.specs.declared.mark.End.{End}
 use Rattle.kt_worlds.specs.declared.mark.End.TheVariants as end
 use Rattle.kt_worlds.specs.Waiting.{joined}

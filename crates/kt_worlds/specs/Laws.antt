@@ -1,5 +1,5 @@
 -- Laws of worlds, as statements.
-use Rattle.std.specs.Prelude.{◌≡◌, ◌↔◌, ℕ, suc, ◌≤◌, List, [], ◌∷◌, ◌++◌, length}
+use Rattle.std.specs.Prelude.{◌≡◌, ◌↔◌, ℕ, List, [], ◌∷◌, ◌++◌, length}
 use Rattle.kt_meaning.specs.Thread as tree
 use Rattle.kt_phase.specs.declared.counters.Phase.TheVariants.{Main}
 use Rattle.kt_worlds.specs.declared.mark.Closed.{Closed}

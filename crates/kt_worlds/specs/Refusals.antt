@@ -1,9 +1,8 @@
 -- What refuses a closing: the first of five kinds.
-use Rattle.std.specs.Prelude.{ℕ, zero, suc, ◌==◌, ◌||◌, not, Bool, true, false, List, [], ◌∷◌, ◌++◌, length, map, Option, None, Some, is_some, is_none, option_and_then, slice_get, take, if◌then◌else◌}
+use Rattle.std.specs.Prelude.{ℕ, zero, suc, ◌||◌, not, Bool, true, false, List, [], ◌∷◌, length, Option, None, Some, is_none, option_and_then, slice_get, if◌then◌else◌}
 use Rattle.std.specs.List.{list_any}
 use Rattle.std.specs.Option.{option_map}
 use Rattle.kt_types.specs.declared.kinds.FieldDecl.{FieldDecl}
-use Rattle.kt_mem.specs.declared.memory.Name.{Name}
 use Rattle.kt_mem.specs.declared.memory.Name.TheVariants.{Glob, Heap}
 use Rattle.kt_mem.specs.declared.memory.Value.{Value}
 use Rattle.kt_mem.specs.declared.memory.Value.TheVariants.{Held}
@@ -16,13 +15,12 @@ use Rattle.kt_meaning.specs.Steps.{Step, Quiet, Acts, Traps, Ends}
 use Rattle.xf_plan.specs.Correspondence.{converts}
 use Rattle.xf_plan.specs.Images.{below, faults, first_fault, fresh_places, is_too_big, sizes}
 use Rattle.xf_plan.specs.Reached.{reached, distinct}
-use Rattle.xf_plan.specs.declared.place.Fault.{Fault}
 use Rattle.xf_plan.specs.declared.place.Root.{Root}
 use Rattle.kt_worlds.specs.declared.mark.Closed.{Closed}
 use Rattle.kt_worlds.specs.declared.mark.Closed.TheVariants as closed
 use Rattle.kt_worlds.specs.Job.{Passage}
 use Rattle.kt_worlds.specs.Roots.{new_parameter, old_parameter}
-use Rattle.kt_worlds.specs.World.{Engine, Standing, Thread, World, lives}
+use Rattle.kt_worlds.specs.World.{Engine, Thread, World, lives}
 
 -- ---- a mutex is held
 

@@ -1,23 +1,22 @@
 -- What threads add to the places from which an update begins: their arguments, and their noted locals.
-use Rattle.std.specs.Prelude.{ℕ, zero, suc, ◌==◌, not, Bool, true, false, List, [], ◌∷◌, ◌++◌, Option, None, Some, option_and_then, slice_get, Result, Ok, Err, if◌then◌else◌}
+use Rattle.std.specs.Prelude.{ℕ, suc, ◌==◌, Bool, true, false, List, [], ◌∷◌, ◌++◌, Option, None, Some, option_and_then, slice_get, Result, Ok, if◌then◌else◌}
 use Rattle.std.specs.Option.{option_map}
 use Rattle.kt_types.specs.declared.kinds.FieldDecl.{FieldDecl}
 use Rattle.kt_types.specs.declared.kinds.Ty.{Ty}
 use Rattle.kt_mem.specs.declared.memory.Value.{Value}
-use Rattle.kt_mem.specs.declared.memory.Value.TheVariants.{Undef}
 use Rattle.kt_mem.specs.declared.steps.Trap.{Trap}
 use Rattle.kt_mem.specs.Memory.{Memory}
 use Rattle.kt_tree.specs.Names.{place_of}
 use Rattle.kt_tree.specs.Tree.{Function}
 use Rattle.kt_tree.specs.Version.{Program, function_names}
-use Rattle.xf_plan.specs.Plan.{Plan, LocalRule, LocalSource}
+use Rattle.xf_plan.specs.Plan.{LocalRule, LocalSource}
 use Rattle.xf_plan.specs.PreValues.{pre_argument, pre_local}
 use Rattle.xf_plan.specs.declared.place.Place.{Place}
 use Rattle.xf_plan.specs.declared.place.Place.TheVariants.{Argument, Local}
 use Rattle.xf_plan.specs.declared.place.Root.{Root}
 use Rattle.xf_plan.specs.declared.value.PreValue.{PreValue}
 use Rattle.kt_worlds.specs.Job.{Passage}
-use Rattle.kt_worlds.specs.World.{Call, Engine, Standing, Thread, lives}
+use Rattle.kt_worlds.specs.World.{Call, Engine, Thread, lives}
 
 abbrev pub if_root : Option Root → List Root
 if_root None = []

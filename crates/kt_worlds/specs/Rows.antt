@@ -1,12 +1,11 @@
 -- Worked runs, followed by hand: threads made and joined, a lock that waits, a run that is stuck, closings with two threads, each kind
 -- of refusal, a chain of updates, conditions.
-use Rattle.std.specs.Prelude.{◌≡◌, ℕ, pos, Bool, true, false, List, [], ◌∷◌, codes, map, Option, None, Some, refl}
+use Rattle.std.specs.Prelude.{◌≡◌, ℕ, pos, true, false, List, [], ◌∷◌, codes, map, None, Some, refl}
 use Rattle.kt_types.specs.Layout.{layout, place_cells, struct_cells}
 use Rattle.kt_mem.specs.Memory.{put}
 use Rattle.kt_mem.specs.declared.memory.Name.TheVariants.{Glob}
 use Rattle.kt_mem.specs.declared.memory.Value.{Value}
 use Rattle.kt_mem.specs.declared.memory.Value.TheVariants.{Num, Ptr}
-use Rattle.kt_mem.specs.declared.memory.Value.TheVariants as value
 use Rattle.kt_mem.specs.declared.steps.Act.{Act}
 use Rattle.kt_mem.specs.declared.steps.Act.TheVariants.{Create, Join, Lock, Unlock, Wait, Signal, Point, Tick, MainReturn}
 use Rattle.kt_mem.specs.declared.steps.Trap.TheVariants as trap
@@ -23,13 +22,12 @@ use Rattle.xf_plan.specs.declared.place.Why.TheVariants.{Rule}
 use Rattle.kt_phase.specs.declared.counters.Phase.TheVariants as phase
 use Rattle.kt_worlds.specs.declared.mark.Closed.TheVariants as closed
 use Rattle.kt_worlds.specs.declared.mark.End.TheVariants as end
-use Rattle.kt_worlds.specs.declared.mark.Mark.{Mark}
 use Rattle.kt_worlds.specs.declared.mark.Mark.TheVariants.{Ask, Close, MainThere, Back, End}
 use Rattle.kt_worlds.specs.Job.{Job}
 use Rattle.kt_worlds.specs.Scripts.{Script, Scripts, scripted, worker, program, plan, job, run}
 use Rattle.kt_worlds.specs.Turns.{world_from}
 use Rattle.kt_worlds.specs.Waiting.{is_enabled}
-use Rattle.kt_worlds.specs.World.{World, Standing, Live, Waiter, Parked, Ended}
+use Rattle.kt_worlds.specs.World.{World, Standing, Live, Waiter, Parked}
 
 abbrev m : Value
 m = Ptr (Glob 0) 0

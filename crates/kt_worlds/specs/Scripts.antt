@@ -1,13 +1,9 @@
 -- An engine whose threads do the acts of a script, for worked runs: small enough to be followed by hand.
-use Rattle.std.specs.Prelude.{ℕ, zero, suc, ◌==◌, ◌&&◌, Bool, true, false, List, [], ◌∷◌, ◌++◌, codes, map, Option, None, Some, slice_get, length, if◌then◌else◌}
-use Rattle.kt_types.specs.declared.kinds.FieldDecl.{FieldDecl}
-use Rattle.kt_types.specs.declared.kinds.Ty.TheVariants as ty
+use Rattle.std.specs.Prelude.{ℕ, true, false, List, [], ◌∷◌, codes, Option, None, Some, slice_get, length}
 use Rattle.kt_types.specs.declared.kinds.View.TheVariants as view
-use Rattle.kt_types.specs.Table.{Table, scalar_table}
-use Rattle.kt_mem.specs.declared.memory.Value.{Value}
+use Rattle.kt_types.specs.Table.{scalar_table}
 use Rattle.kt_mem.specs.declared.steps.Act.{Act}
 use Rattle.kt_mem.specs.declared.steps.Act.TheVariants as act
-use Rattle.kt_mem.specs.declared.steps.Reply.{Reply}
 use Rattle.kt_tree.specs.declared.global.GlobalDecl.{GlobalDecl}
 use Rattle.kt_tree.specs.declared.global.Init.TheVariants as init
 use Rattle.kt_tree.specs.Tree.{Function, Compound, Done}

@@ -1,5 +1,5 @@
 -- A closing: the update, or the refusal (whole-program update as in Kitsune; OOPSLA 2012, section 3).
-use Rattle.std.specs.Prelude.{ℕ, pos, negsuc, nat_lt, suc, ◌+◌, ◌-◌, ◌==◌, Bool, true, false, List, [], ◌∷◌, ◌++◌, map, flat_map, length, Option, Some, None, option_and_then, unwrap_or, Result, Ok, Err, if◌then◌else◌, slice_get}
+use Rattle.std.specs.Prelude.{ℕ, pos, negsuc, nat_lt, suc, ◌+◌, ◌-◌, ◌==◌, List, [], ◌∷◌, ◌++◌, map, flat_map, length, Option, Some, None, unwrap_or, if◌then◌else◌, slice_get}
 use Rattle.std.specs.Option.{option_map}
 use Rattle.kt_types.specs.declared.kinds.Ty.{Ty}
 use Rattle.kt_types.specs.declared.kinds.Ty.TheVariants as ty
@@ -34,7 +34,7 @@ use Rattle.kt_worlds.specs.Acts.{gone_on}
 use Rattle.kt_worlds.specs.Job.{Passage}
 use Rattle.kt_worlds.specs.Refusals.{next_point, refusal}
 use Rattle.kt_worlds.specs.Roots.{new_function, thread_roots}
-use Rattle.kt_worlds.specs.World.{Engine, Standing, Live, Waiter, Parked, Ended, Shared, Thread, World, marked}
+use Rattle.kt_worlds.specs.World.{Engine, Standing, Live, Waiter, Parked, Ended, Thread, World, marked}
 
 -- ---- the memory with which a version begins
 

@@ -1,13 +1,12 @@
 -- Which threads may take a turn.
 use Rattle.std.specs.Prelude.{ℕ, ℤ, pos, zero, suc, ◌==◌, ◌&&◌, ◌||◌, not, Bool, true, false, List, [], ◌∷◌, Option, None, Some, slice_get}
-use Rattle.kt_mem.specs.declared.memory.Value.{Value}
 use Rattle.kt_mem.specs.declared.steps.Act.{Act}
 use Rattle.kt_mem.specs.declared.steps.Act.TheVariants as act
 use Rattle.kt_mem.specs.Memory.{waits}
-use Rattle.kt_meaning.specs.Steps.{Step, Quiet, Acts, Traps, Ends}
+use Rattle.kt_meaning.specs.Steps.{Step, Acts}
 use Rattle.kt_phase.specs.declared.counters.Phase.{Phase}
 use Rattle.kt_phase.specs.declared.counters.Phase.TheVariants.{Run, Asked, Main, Others}
-use Rattle.kt_worlds.specs.World.{Engine, Shared, Standing, Thread, World, lives, takes_turns}
+use Rattle.kt_worlds.specs.World.{Engine, Thread, World, lives, takes_turns}
 
 -- ---- joining
 

@@ -1,5 +1,5 @@
 -- Which types of two versions correspond, and which convert into each other by default.
-use Rattle.std.specs.Prelude.{ℕ, zero, suc, nat_le, ◌&&◌, Bool, true, false, length, slice_get, position, Option, None, Some, option_and_then}
+use Rattle.std.specs.Prelude.{ℕ, zero, suc, nat_le, ◌&&◌, Bool, true, false, length, slice_get, position, Option, Some, option_and_then}
 use Rattle.kt_types.specs.declared.kinds.Ty.{Ty}
 use Rattle.kt_types.specs.declared.kinds.Ty.TheVariants.{Char, Int, Long, Mutex, Struct, Array, Ptr}
 use Rattle.xf_plan.specs.Plan.{Plan, is_pair}

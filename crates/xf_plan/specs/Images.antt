@@ -1,12 +1,11 @@
 -- What an update makes of memory: the images of what is reached, the objects of fresh places, the values that are kept; and what
 -- refuses it at a place or by its size.
-use Rattle.std.specs.Prelude.{ℕ, zero, suc, ◌+◌, ◌-◌, ◌*◌, ◌==◌, ◌&&◌, ◌||◌, nat_lt, Bool, true, false, List, [], ◌∷◌, ◌++◌, map, filter, flat_map, length, position, slice_get, sum, Option, None, Some, is_some, option_and_then, unwrap_or, Result, Ok, Err, if◌then◌else◌}
+use Rattle.std.specs.Prelude.{ℕ, zero, suc, ◌+◌, ◌-◌, ◌*◌, ◌==◌, ◌&&◌, ◌||◌, nat_lt, Bool, true, false, List, [], ◌∷◌, ◌++◌, map, filter, flat_map, length, position, slice_get, sum, Option, None, Some, unwrap_or, Result, Ok, Err, if◌then◌else◌}
 use Rattle.std.specs.List.{list_any}
 use Rattle.std.specs.Option.{option_map}
-use Rattle.kt_types.specs.declared.kinds.Ty.{Ty}
 use Rattle.kt_types.specs.Layout.{cells}
 use Rattle.kt_mem.specs.declared.memory.Name.{Name}
-use Rattle.kt_mem.specs.declared.memory.Name.TheVariants.{Glob, Lit, Heap}
+use Rattle.kt_mem.specs.declared.memory.Name.TheVariants.{Glob, Heap}
 use Rattle.kt_mem.specs.declared.memory.Value.{Value}
 use Rattle.kt_mem.specs.declared.memory.Value.TheVariants.{Ptr, Undef}
 use Rattle.kt_mem.specs.declared.steps.Trap.{Trap}

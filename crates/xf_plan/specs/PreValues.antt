@@ -1,6 +1,6 @@
 -- Pre-values: what a new cell, argument or local is to hold, told over the old version's memory (Kitsune's transformers, before
 -- objects are moved).
-use Rattle.std.specs.Prelude.{ℕ, List, [], ◌∷◌, slice_get, Option, None, Some, option_and_then, Result, Ok, Err}
+use Rattle.std.specs.Prelude.{ℕ, [], ◌∷◌, slice_get, Option, None, Some, option_and_then, Result, Ok}
 use Rattle.kt_types.specs.declared.kinds.Ty.{Ty}
 use Rattle.kt_types.specs.declared.kinds.Ty.TheVariants as ty
 use Rattle.kt_mem.specs.declared.memory.Name.{Name}
@@ -10,7 +10,7 @@ use Rattle.kt_mem.specs.declared.memory.Value.TheVariants.{Ptr, Free, Undef}
 use Rattle.kt_mem.specs.declared.steps.Trap.{Trap}
 use Rattle.kt_mem.specs.Memory.{Memory, Object, Cell, zero_value}
 use Rattle.xf_plan.specs.Bodies.{Actions}
-use Rattle.xf_plan.specs.Plan.{Plan, GlobalSource, Unmapped, OldGlobal, GlobalBody}
+use Rattle.xf_plan.specs.Plan.{Plan, GlobalSource, OldGlobal, GlobalBody}
 use Rattle.xf_plan.specs.Sources.{Source, FromCell, Zero, FromBody}
 use Rattle.xf_plan.specs.RuleCode.{body_value}
 use Rattle.xf_plan.specs.declared.value.PreValue.{PreValue}

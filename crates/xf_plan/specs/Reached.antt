@@ -1,9 +1,8 @@
 -- Which heap objects and literals an update reaches.
-use Rattle.std.specs.Prelude.{ℕ, zero, suc, ◌+◌, ◌&&◌, not, Bool, true, false, List, [], ◌∷◌, ◌++◌, Contains, filter, flat_map, Option, None, Some, Result, Ok, Err, if◌then◌else◌}
+use Rattle.std.specs.Prelude.{◌≡◌, ℕ, zero, suc, ◌<◌, Bool, true, false, List, [], ◌∷◌, ◌++◌, flat_map, Option, None, Some, Result, Ok, if◌then◌else◌}
 use Rattle.std.specs.List.{list_any}
 use Rattle.kt_mem.specs.declared.memory.Name.{Name}
 use Rattle.kt_mem.specs.declared.memory.Name.TheVariants.{Glob, Lit, Heap}
-use Rattle.kt_mem.specs.declared.memory.Value.{Value}
 use Rattle.kt_mem.specs.declared.memory.Value.TheVariants.{Ptr}
 use Rattle.kt_mem.specs.declared.steps.Trap.{Trap}
 use Rattle.kt_mem.specs.Memory.{Memory, Object}
@@ -42,12 +41,15 @@ target p m s = unless_faulty (fault_at p m s) (pointed m s.pre)
 abbrev pub targets : Plan → Memory → List Spot → List Name
 targets p m spots = flat_map (target p m) spots
 
+abbrev pub is_among : List Name → Name → Bool
+is_among names n = list_any (name_eq n) names
+
 -- ---- paths
 
 -- a root place leads to the object, or a place of the image of a heap object that is reached does
 pub data IsReached (p : Plan) (m : Memory) (roots : List Root) : Name → Type 0 where
-  ByRoot : (n : Name) → Contains (targets p m (root_spots p m roots)) n → IsReached p m roots n
-  Onward : (a : ℕ) (n : Name) → IsReached p m roots (Heap a) → Contains (targets p m (heap_spots p m a)) n → IsReached p m roots n
+  ByRoot : (n : Name) → is_among (targets p m (root_spots p m roots)) n ≡ true → IsReached p m roots n
+  Onward : (a : ℕ) (n : Name) → IsReached p m roots (Heap a) → is_among (targets p m (heap_spots p m a)) n ≡ true → IsReached p m roots n
 
 -- ---- the same, counted by steps
 
@@ -64,10 +66,21 @@ reached_within p m roots (suc n) = reached_within p m roots n ++ flat_map (heap_
 abbrev pub reached : Plan → Memory → List Root → List Name
 reached p m roots = reached_within p m roots m.next
 
-abbrev pub is_among : List Name → Name → Bool
-is_among names n = list_any (name_eq n) names
-
 -- a list without its repeats: of equal names the last one stays
 abbrev pub distinct : List Name → List Name
 distinct [] = []
 distinct (n ∷ names) = if is_among names n then distinct names else n ∷ distinct names
+
+-- ---- the law
+
+-- live heap objects have numbers below the next one
+abbrev pub IsNumbered : Memory → Type 0
+IsNumbered m = (a : ℕ) (o : Object) → m.at (Heap a) ≡ Some o → a < m.next
+
+-- what as many steps lead to is what paths lead to
+pub record ReachesAll (p : Plan) (m : Memory) (roots : List Root) (n : Name) : Type 0 where
+  pub sound : is_among (reached p m roots) n ≡ true → IsReached p m roots n
+  pub complete : IsReached p m roots n → is_among (reached p m roots) n ≡ true
+
+abbrev pub StepsArePaths : Type 0
+StepsArePaths = (p : Plan) (m : Memory) (roots : List Root) (n : Name) → IsNumbered m → ReachesAll p m roots n

@@ -1,7 +1,7 @@
 -- Worked updates: small memories of an old version, plans, and what these definitions give for them. Each is a small program that was
 -- worked out by hand: a ring of nodes that gain a field, a pointer into a struct, a counted array, a rule that traps, a pointer to a
 -- global, nodes that gain an object.
-use Rattle.std.specs.Prelude.{◌≡◌, ℕ, ◌==◌, pos, true, List, [], ◌∷◌, map, length, codes, Option, None, Some, Result, Ok, refl, if◌then◌else◌}
+use Rattle.std.specs.Prelude.{◌≡◌, ℕ, ◌==◌, pos, List, [], ◌∷◌, codes, Option, None, Some, refl, if◌then◌else◌}
 use Rattle.kt_types.specs.declared.kinds.Ty.TheVariants as ty
 use Rattle.kt_types.specs.declared.kinds.FieldDecl.{FieldDecl}
 use Rattle.kt_types.specs.declared.kinds.View.{View}
@@ -21,10 +21,10 @@ use Rattle.kt_tree.specs.declared.expr.Operation.TheVariants as operation
 use Rattle.kt_tree.specs.declared.expr.Request.TheVariants as request
 use Rattle.kt_tree.specs.declared.global.Init.{Init}
 use Rattle.kt_tree.specs.declared.global.Init.TheVariants as init
-use Rattle.kt_tree.specs.Tree.{Expression, Constant', LocalRead, Operated, Requested, Expressions, NoMore, More}
+use Rattle.kt_tree.specs.Tree.{Expression, Constant', LocalRead, Operated, Requested, NoMore, More}
 use Rattle.xf_plan.specs.Bodies.{Actions, Done, Then, Assigned, Number, New}
-use Rattle.xf_plan.specs.Plan.{Plan, FieldRule, FieldSource, OldField, ZeroField, FieldBody, GlobalRule, GlobalSource, Unmapped, OldGlobal}
-use Rattle.xf_plan.specs.Images.{faults, fresh_places, heap_numbers, image_count, kept_globals, moved_object, live_cells, place_eq}
+use Rattle.xf_plan.specs.Plan.{Plan, FieldRule, FieldSource, OldField, FieldBody, GlobalRule, GlobalSource, OldGlobal}
+use Rattle.xf_plan.specs.Images.{faults, fresh_places, heap_numbers, image_count, kept_globals, moved_object, live_cells}
 use Rattle.xf_plan.specs.Reached.{reached}
 use Rattle.xf_plan.specs.declared.place.Fault.{Fault}
 use Rattle.xf_plan.specs.declared.place.Place.{Place}
@@ -145,7 +145,10 @@ into_struct = memory 1 (pair_object ∷ pointer_to 0 4 (Ptr (Heap 0) 0) ∷ poin
 abbrev same_pointers : Plan
 same_pointers = plan pair_table pair_table (node_pointer 0 ∷ global_rule 6 view.One init.Null (OldGlobal 1 6 1) ∷ []) same_pair
 
-pub interior_row : faults same_pointers into_struct [] ≡ wrong_at (GlobalCell 1 0) Interior ∷ []
+abbrev pub InteriorRow : Type 0
+InteriorRow = faults same_pointers into_struct [] ≡ wrong_at (GlobalCell 1 0) Interior ∷ []
+
+pub interior_row : InteriorRow
 unfolding layout place_cells struct_cells repeated
 interior_row = refl
 
@@ -185,7 +188,10 @@ abbrev counting_fields : Plan
 counting_fields = plan counted_field counted_field (global_rule 5 (view.Count 2) init.Null (OldGlobal 0 5 1) ∷ [])
     (field_rule 1 view.One (OldField 0) ∷ field_rule 6 (view.Field 0) (OldField 1) ∷ [])
 
-pub field_extent_row : faults counting_fields two_counted [] ≡ wrong_at (HeapCell 0 3) why.Extent ∷ []
+abbrev pub FieldExtentRow : Type 0
+FieldExtentRow = faults counting_fields two_counted [] ≡ wrong_at (HeapCell 0 3) why.Extent ∷ []
+
+pub field_extent_row : FieldExtentRow
 unfolding layout place_cells struct_cells repeated
 field_extent_row = refl
 

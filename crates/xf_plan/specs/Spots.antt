@@ -1,11 +1,10 @@
 -- Places of an update with all that is told of them: the type of the new value, its pre-value, and how many elements it is to
 -- point to; what is wrong there. A place is that of a cell of a mapped global or of an image, or one of the roots that threads add.
-use Rattle.std.specs.Prelude.{ℕ, ℤ, pos, suc, ◌==◌, ◌&&◌, not, Bool, true, false, List, [], ◌∷◌, ◌++◌, position, slice_get, Option, None, Some, option_and_then, Result, Ok, Err, if◌then◌else◌}
-use Rattle.std.specs.Option.{option_map}
+use Rattle.std.specs.Prelude.{ℕ, ℤ, pos, suc, ◌==◌, ◌&&◌, Bool, true, false, List, [], ◌∷◌, ◌++◌, position, slice_get, Option, None, Some, option_and_then, Result, Ok, Err, if◌then◌else◌}
 use Rattle.kt_types.specs.declared.kinds.Ty.{Ty}
 use Rattle.kt_types.specs.declared.kinds.Ty.TheVariants as ty
 use Rattle.kt_mem.specs.declared.memory.Name.{Name}
-use Rattle.kt_mem.specs.declared.memory.Name.TheVariants.{Glob, Lit, Heap}
+use Rattle.kt_mem.specs.declared.memory.Name.TheVariants.{Glob, Heap}
 use Rattle.kt_mem.specs.declared.memory.Value.{Value}
 use Rattle.kt_mem.specs.declared.memory.Value.TheVariants.{Num, Ptr}
 use Rattle.kt_mem.specs.declared.steps.Trap.{Trap}

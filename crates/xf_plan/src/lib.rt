@@ -4,8 +4,10 @@
 //! Only definitions stand here so far, and the types in which faults are told.
 #![tactic(auto)]
 
+mod laws;
 mod place;
 mod value;
 
+pub use laws::{reached_law, rows_law};
 pub use place::{Fault, Place, Root, Why};
 pub use value::PreValue;
