@@ -1,7 +1,7 @@
 -- Worked updates: small memories of an old version, plans, and what these definitions give for them. Each is a small program that was
 -- worked out by hand: a ring of nodes that gain a field, a pointer into a struct, a counted array, a rule that traps, a pointer to a
 -- global, nodes that gain an object.
-use Rattle.std.specs.Prelude.{◌≡◌, ℕ, ◌==◌, pos, List, [], ◌∷◌, codes, Option, None, Some, refl, if◌then◌else◌}
+use Rattle.std.specs.Prelude.{◌≡◌, ℕ, ◌==◌, pos, true, false, List, [], ◌∷◌, codes, Option, None, Some, refl, if◌then◌else◌}
 use Rattle.kt_types.specs.declared.kinds.Ty.TheVariants as ty
 use Rattle.kt_types.specs.declared.kinds.FieldDecl.{FieldDecl}
 use Rattle.kt_types.specs.declared.kinds.View.{View}
@@ -24,8 +24,10 @@ use Rattle.kt_tree.specs.declared.global.Init.TheVariants as init
 use Rattle.kt_tree.specs.Tree.{Expression, Constant', LocalRead, Operated, Requested, NoMore, More}
 use Rattle.xf_plan.specs.Bodies.{Actions, Done, Then, Assigned, Number, New}
 use Rattle.xf_plan.specs.Plan.{Plan, FieldRule, FieldSource, OldField, FieldBody, GlobalRule, GlobalSource, OldGlobal}
+use Rattle.xf_plan.specs.Correspondence.{converts}
 use Rattle.xf_plan.specs.Images.{faults, fresh_places, heap_numbers, image_count, kept_globals, moved_object, live_cells}
 use Rattle.xf_plan.specs.Reached.{reached}
+use Rattle.xf_plan.specs.Sources.{Source, FromCell, Zero, sources}
 use Rattle.xf_plan.specs.declared.place.Fault.{Fault}
 use Rattle.xf_plan.specs.declared.place.Place.{Place}
 use Rattle.xf_plan.specs.declared.place.Place.TheVariants.{GlobalCell, HeapCell}
@@ -38,10 +40,10 @@ use Rattle.xf_plan.specs.declared.place.Why.TheVariants as why
 abbrev field : List ℕ → ℕ → View → FieldDecl
 field name t v = record { name = name; ty = t; view = v }
 
--- the scalar types, one struct (its type stands at 4), and pointers to it (5) and to `int` (6)
+-- the scalar types, one struct (its type stands at 4), pointers to it (5) and to `int` (6), arrays of three and of five `int` (7, 8)
 abbrev table : List FieldDecl → Table
 table fields = record {
-  types = ty.Char ∷ ty.Int ∷ ty.Long ∷ ty.Mutex ∷ ty.Struct 0 ∷ ty.Ptr 4 ∷ ty.Ptr 1 ∷ [];
+  types = ty.Char ∷ ty.Int ∷ ty.Long ∷ ty.Mutex ∷ ty.Struct 0 ∷ ty.Ptr 4 ∷ ty.Ptr 1 ∷ ty.Array 1 3 ∷ ty.Array 1 5 ∷ [];
   structs = codes "node" ∷ [];
   defined = record { number = 0; fields = fields } ∷ [];
 }
@@ -77,6 +79,27 @@ plan old new globals fields = record { old = old; new = new; structs = (0, 0) �
 
 abbrev wrong_at : Place → Why → Fault
 wrong_at place w = record { place = place; why = w }
+
+-- ---- what converts by default
+
+abbrev plain : Plan
+plain = plan (table []) (table []) [] []
+
+pub record ConversionRow : Type 0 where
+  pub same : converts plain 1 1 ≡ true
+  pub wider : converts plain 0 2 ≡ true
+  pub narrower : converts plain 2 1 ≡ false
+  pub mutex : converts plain 3 3 ≡ true
+  pub to_struct : converts plain 5 5 ≡ true
+  pub pointees : converts plain 6 5 ≡ false
+  pub longer : converts plain 7 8 ≡ true
+  pub shorter : converts plain 8 7 ≡ false
+  pub elements : sources plain 7 8 ≡ Some (FromCell 0 ∷ FromCell 1 ∷ FromCell 2 ∷ Zero ∷ Zero ∷ [])
+
+pub conversion_row : ConversionRow
+unfolding layout place_cells struct_cells repeated
+conversion_row =
+    record { same = refl; wider = refl; narrower = refl; mutex = refl; to_struct = refl; pointees = refl; longer = refl; shorter = refl; elements = refl }
 
 -- ---- a ring of three nodes, which gain an age: `INIT struct node.age: { $out = 10 + $base.v; }`
 
@@ -154,24 +177,26 @@ interior_row = refl
 
 -- ---- a counted array: `int n; int * E_PTRARRAY(n) a;`, where a points to four elements
 
-abbrev counted : ℕ → Memory
-counted n = memory 1
+abbrev counted : ℕ → ℕ → Memory
+counted n offset = memory 1
     ((Heap 0, object 0 1 4 (int_cell 0 ∷ int_cell 0 ∷ int_cell 0 ∷ int_cell 0 ∷ [])) ∷
-    (Glob 0, object 0 1 1 (int_cell n ∷ [])) ∷ pointer_to 1 1 (Ptr (Heap 0) 0) ∷ [])
+    (Glob 0, object 0 1 1 (int_cell n ∷ [])) ∷ pointer_to 1 1 (Ptr (Heap 0) offset) ∷ [])
 
 abbrev counting : Plan
 counting = plan (table []) (table [])
     (global_rule 1 view.One init.Zero (OldGlobal 0 1 1) ∷ global_rule 6 (view.Global 0) init.Null (OldGlobal 1 6 1) ∷ []) []
 
 pub record ExtentRow : Type 0 where
-  pub of_three : faults counting (counted 3) [] ≡ wrong_at (GlobalCell 1 0) why.Extent ∷ []
-  pub of_four : faults counting (counted 4) [] ≡ []
-  pub image : moved_object counting (counted 4) (reached counting (counted 4) []) [] (Heap 0) ≡
+  pub of_three : faults counting (counted 3 0) [] ≡ wrong_at (GlobalCell 1 0) why.Extent ∷ []
+  pub of_four : faults counting (counted 4 0) [] ≡ []
+  -- but a pointer to its second element is none to an object
+  pub inner : faults counting (counted 4 1) [] ≡ wrong_at (GlobalCell 1 0) Interior ∷ []
+  pub image : moved_object counting (counted 4 0) (reached counting (counted 4 0) []) [] (Heap 0) ≡
       Some (object 0 1 4 (int_cell 0 ∷ int_cell 0 ∷ int_cell 0 ∷ int_cell 0 ∷ []))
 
 pub extent_row : ExtentRow
 unfolding layout place_cells struct_cells repeated
-extent_row = record { of_three = refl; of_four = refl; image = refl }
+extent_row = record { of_three = refl; of_four = refl; inner = refl; image = refl }
 
 -- ---- the same where the count is a field: `struct node { int n; int * E_PTRARRAY(n) a; };`
 
