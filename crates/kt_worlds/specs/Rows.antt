@@ -1,6 +1,6 @@
 -- Worked runs, followed by hand: threads made and joined, a lock that waits, a run that is stuck, closings with two threads, each kind
 -- of refusal, a chain of updates, conditions.
-use Rattle.std.specs.Prelude.{◌≡◌, ℕ, pos, true, false, List, [], ◌∷◌, codes, map, None, Some, refl}
+use Rattle.std.specs.Prelude.{◌≡◌, ℕ, pos, Bool, true, false, List, [], ◌∷◌, codes, map, None, Some, refl}
 use Rattle.kt_types.specs.Layout.{layout, place_cells, struct_cells}
 use Rattle.kt_mem.specs.Memory.{put}
 use Rattle.kt_mem.specs.declared.memory.Name.TheVariants.{Glob}
@@ -27,7 +27,7 @@ use Rattle.kt_worlds.specs.Job.{Job}
 use Rattle.kt_worlds.specs.Scripts.{Script, Scripts, scripted, worker, program, plan, job, run}
 use Rattle.kt_worlds.specs.Turns.{world_from}
 use Rattle.kt_worlds.specs.Waiting.{is_enabled}
-use Rattle.kt_worlds.specs.World.{World, Standing, Live, Waiter, Parked}
+use Rattle.kt_worlds.specs.World.{World, Standing, Live, Waiter, Parked, Ended}
 
 abbrev m : Value
 m = Ptr (Glob 0) 0
@@ -94,6 +94,7 @@ updating =
 pub record UpdateRow : Type 0 where
   pub asked : (run updating (two_versions (1 ∷ [])) (0 ∷ [])).shared.marks ≡ Ask 1 1 0 ∷ []
   pub parked : standings (run updating (two_versions (1 ∷ [])) (0 ∷ 0 ∷ [])) ≡ Parked ∷ Live ∷ []
+  pub at_rest : is_enabled (scripted updating) (run updating (two_versions (1 ∷ [])) (0 ∷ 0 ∷ [])) 0 ≡ false
   pub main_first : (run updating (two_versions (1 ∷ [])) (0 ∷ 0 ∷ 1 ∷ [])).shared.marks ≡ Ask 1 1 0 ∷ Close 3 1 (closed.Ok 0) ∷ []
   pub worker_first : (run updating (two_versions (1 ∷ [])) (0 ∷ 1 ∷ 0 ∷ [])).shared.marks ≡ Ask 1 1 0 ∷ Close 3 1 (closed.Ok 0) ∷ []
   -- both stand at their entries, the worker with its argument, and only `main` takes turns
@@ -106,8 +107,20 @@ pub record UpdateRow : Type 0 where
 pub update_row : UpdateRow
 unfolding world_from layout place_cells struct_cells put
 update_row = record {
-  asked = refl; parked = refl; main_first = refl; worker_first = refl; arguments = refl; main_alone = refl; there = refl; back = refl;
+  asked = refl; parked = refl; at_rest = refl; main_first = refl; worker_first = refl; arguments = refl; main_alone = refl; there = refl; back = refl;
 }
+
+-- a worker that has ended stays ended: the closing is that of `main` alone
+abbrev after_an_end : World Script
+after_an_end = run (((Create 1 (Num (pos 7)) ∷ Point 0 ∷ []) ∷ [] ∷ []) ∷ ((Point 1 ∷ []) ∷ []) ∷ []) (two_versions (1 ∷ [])) (0 ∷ 1 ∷ 0 ∷ 0 ∷ [])
+
+pub record EndedRow : Type 0 where
+  pub standings : standings after_an_end ≡ Live ∷ Ended ∷ []
+  pub marks : after_an_end.shared.marks ≡ Ask 1 1 0 ∷ Close 3 1 (closed.Ok 0) ∷ MainThere 4 1 ∷ Back 4 1 ∷ []
+
+pub ended_row : EndedRow
+unfolding world_from layout place_cells struct_cells put
+ended_row = record { standings = refl; marks = refl }
 
 -- ---- what refuses a closing
 
@@ -167,9 +180,12 @@ chain = ((Point 0 ∷ MainReturn (pos 0) ∷ []) ∷ []) ∷ ((Point 0 ∷ Point
 abbrev chain_job : Job
 chain_job = job (only_main ∷ only_main ∷ only_main ∷ []) (plan [] ∷ plan [] ∷ []) (0 ∷ 0 ∷ [])
 
-pub chain_row : (run chain chain_job (0 ∷ 0 ∷ 0 ∷ 0 ∷ 0 ∷ [])).shared.marks ≡
+abbrev pub ChainRow : Type 0
+ChainRow = (run chain chain_job (0 ∷ 0 ∷ 0 ∷ 0 ∷ 0 ∷ [])).shared.marks ≡
     Ask 0 1 0 ∷ Close 1 1 (closed.Ok 0) ∷ MainThere 2 1 ∷ Back 2 1 ∷ Ask 2 2 0 ∷ Close 3 2 (closed.Ok 0) ∷ MainThere 4 2 ∷ Back 4 2 ∷
     End 5 (end.Main (pos 2)) ∷ []
+
+pub chain_row : ChainRow
 unfolding world_from layout place_cells struct_cells put
 chain_row = refl
 
@@ -192,6 +208,21 @@ pub record SignalRow : Type 0 where
 pub signal_row : SignalRow
 unfolding world_from layout place_cells struct_cells put
 signal_row = record { waits = refl; free = refl; asleep = refl; woken = refl; locked_out = refl; let_in = refl; ended = refl }
+
+-- of two waiters a signal wakes the one with the least number, a broadcast both
+abbrev two_waiters : Bool → Scripts
+two_waiters all = ((Create 1 (Num (pos 0)) ∷ Create 1 (Num (pos 0)) ∷ Lock m ∷ Signal m all ∷ []) ∷ (Lock m ∷ Wait m ∷ Lock m ∷ Unlock m ∷ []) ∷ []) ∷ []
+
+abbrev two_asleep : Bool → World Script
+two_asleep all = run (two_waiters all) one_version (0 ∷ 0 ∷ 2 ∷ 2 ∷ 1 ∷ 1 ∷ 0 ∷ 0 ∷ [])
+
+pub record WakeRow : Type 0 where
+  pub one : standings (two_asleep false) ≡ Live ∷ Live ∷ Waiter (Glob 0) 0 ∷ []
+  pub both : standings (two_asleep true) ≡ Live ∷ Live ∷ Live ∷ []
+
+pub wake_row : WakeRow
+unfolding world_from layout place_cells struct_cells put
+wake_row = record { one = refl; both = refl }
 
 abbrev asked_awake : Scripts
 asked_awake = ((Create 1 (Num (pos 0)) ∷ Tick ∷ Tick ∷ Point 0 ∷ []) ∷ (Lock m ∷ Wait m ∷ Lock m ∷ Unlock m ∷ Point 1 ∷ []) ∷ []) ∷ []

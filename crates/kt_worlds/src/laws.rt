@@ -1,7 +1,7 @@
 //! Laws of worlds, each the contract of a function that does nothing.
 
 ghost use Rattle.kt_worlds.specs.Laws.{MainIsAlone, OneMoreIsTheNext, OneMoreMayBeTaken, RefusalsChangeNothing, TurnsAreCounted};
-ghost use Rattle.kt_worlds.specs.Rows.{JoinRow, JoinTraps, RefusalRow, RequestRow, SignalRow, StuckRow, UpdateRow};
+ghost use Rattle.kt_worlds.specs.Rows.{ChainRow, EndedRow, JoinRow, JoinTraps, RefusalRow, RequestRow, SignalRow, StuckRow, UpdateRow, WakeRow};
 
 /// One turn more is the world's next: a thread may take the next turn exactly where the turns before may be taken and it may
 /// take one in their world, and the world of the longer list is then one turn of it from theirs. While `main` is on its way
@@ -24,7 +24,10 @@ pub fn rows_law()
     ensures traps { JoinTraps }
     ensures stuck { StuckRow }
     ensures update { UpdateRow }
+    ensures ended { EndedRow }
     ensures refusals { RefusalRow }
+    ensures chain { ChainRow }
     ensures signal { SignalRow }
+    ensures wake { WakeRow }
     ensures request { RequestRow }
 {}
