@@ -107,7 +107,15 @@ pub record UpdateRow : Type 0 where
 pub update_row : UpdateRow
 unfolding world_from layout place_cells struct_cells put
 update_row = record {
-  asked = refl; parked = refl; at_rest = refl; main_first = refl; worker_first = refl; arguments = refl; main_alone = refl; there = refl; back = refl;
+  asked = refl;
+  parked = refl;
+  at_rest = refl;
+  main_first = refl;
+  worker_first = refl;
+  arguments = refl;
+  main_alone = refl;
+  there = refl;
+  back = refl;
 }
 
 -- a worker that has ended stays ended: the closing is that of `main` alone

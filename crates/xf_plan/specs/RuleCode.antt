@@ -5,7 +5,7 @@ use Rattle.kt_types.specs.declared.kinds.Ty.{Ty}
 use Rattle.kt_types.specs.Table.{Table}
 use Rattle.kt_mem.specs.declared.memory.Name.TheVariants.{Glob}
 use Rattle.kt_mem.specs.declared.memory.Value.{Value}
-use Rattle.kt_mem.specs.declared.memory.Value.TheVariants.{Ptr} 
+use Rattle.kt_mem.specs.declared.memory.Value.TheVariants.{Ptr}
 use Rattle.kt_mem.specs.declared.memory.Value.TheVariants as value
 use Rattle.kt_mem.specs.declared.steps.Trap.{Trap}
 use Rattle.kt_mem.specs.declared.steps.Trap.TheVariants as trap
