@@ -1,5 +1,5 @@
 //! Exact arithmetic on values.
-ghost use Rattle.std.specs.Prelude.{◌≡◌, ◌≤◌, ◌<◌, ◌^◌, unsigned_abs, pos, ◌-ℤ◌};
+ghost use Rattle.std.specs.Prelude.{◌≡◌, ◌≢◌, ◌≤◌, ◌<◌, ◌^◌, unsigned_abs, pos, ◌-ℤ◌, int_div, int_rem};
 ghost use Rattle.kt_mem.specs.Arithmetic.{within, number, quotient, place, moved, offsets, on_offsets, at_pointer, sum_of, difference_of, product_of, quotient_of, remainder_of, narrowed};
 
 use crate::memory::{Name, Value};
@@ -93,7 +93,7 @@ pub fn rem(ty: Ty, a: Value, b: Value) -> Result<Value, Trap>
     match (a, b) {
         (Value::Num(x), Value::Num(y)) => {
             quotient(ty, x, y)?;
-            number(ty, Trap::Overflow, i128::from(x) % i128::from(y))
+            number(ty, Trap::Overflow, rest_of(x, y))
         }
         _ => Err(Trap::Uninit),
     }
@@ -148,7 +148,33 @@ fn quotient(ty: Ty, x: i64, y: i64) -> Result<Value, Trap>
     if y == 0 {
         Err(Trap::Zero)
     } else {
-        number(ty, Trap::Overflow, i128::from(x) / i128::from(y))
+        number(ty, Trap::Overflow, ratio(x, y))
+    }
+}
+
+/// The quotient toward zero. Only one by -1 may take more than 64 bits.
+#[inline]
+fn ratio(x: i64, y: i64) -> i128
+    requires { y ≢ pos 0 }
+    ensures { result ≡ int_div x y }
+{
+    if y == -1 {
+        i128::from(x) / i128::from(y)
+    } else {
+        i128::from(x / y)
+    }
+}
+
+/// The remainder beside the quotient toward zero.
+#[inline]
+fn rest_of(x: i64, y: i64) -> i128
+    requires { y ≢ pos 0 }
+    ensures { result ≡ int_rem x y }
+{
+    if y == -1 {
+        i128::from(x) % i128::from(y)
+    } else {
+        i128::from(x % y)
     }
 }
 
