@@ -1,7 +1,7 @@
 -- Lists that are kept with the first item last.
 use Rattle.std.specs.Prelude.{◌≡◌, ℕ, zero, suc, ◌+◌, ◌-◌, ◌<◌, ◌≤◌, List, [], ◌∷◌, ◌++◌, length, reverse, take, drop, slice_get, slice_set, slice_index_or, Some, refl}
 use Rattle.std.proofs.Common.{arith, ap, sym, ◌∙◌, subst, inl, inr}
-use Rattle.std.proofs.lemmas.List.{reverse-append, reverse-reverse, length-reverse, length-drop, take-append-drop, get_or-reverse, length-take-le, get_or-take}
+use Rattle.std.proofs.lemmas.List.{reverse-append, reverse-reverse, length-reverse, length-drop, take-append-drop, get_or-reverse}
 use Rattle.std.proofs.lemmas.Bool.{cases_lt}
 use Rattle.std.proofs.Math.ListN.{drop_of_length-le}
 use Rattle.std.proofs.Math.Seq.{take-append_seam, drop-append_seam}
@@ -85,22 +85,11 @@ drop-past n xs h =
 pub drop-reverse : {X : Type 0} (n : ℕ) (xs : List X) → drop n (reverse xs) ≡ reverse (take (length xs - n) xs)
 drop-reverse n xs = elim (cases_lt (length xs) n) [ inl h ↦ let past : length xs ≤ n = omega (arith, h) in drop-past n xs past | inr h ↦ drop-within n xs h ]
 
-two-of : {X : Type 0} (w r : List X) (a b : X) (t : List X) → w ≡ a ∷ drop 1 w → drop 1 w ≡ r → r ≡ b ∷ t → w ≡ a ∷ b ∷ drop 2 w
-two-of w r a b t e f g =
-    let k : w ≡ a ∷ b ∷ t = e ∙ ap (λ l. a ∷ l) (f ∙ g) in
-    k ∙ ap (λ l. a ∷ b ∷ l) (sym (ap (drop 2) k))
-
--- the two last items are the two first ones of the list turned round
-pub reverse-two : {X : Type 0} (xs : List X) (i : ℕ) (d : X) → suc (suc i) ≡ length xs →
-    reverse xs ≡ slice_index_or xs (suc i) d ∷ slice_index_or xs i d ∷ drop 2 (reverse xs)
-reverse-two xs i d h =
-    let n : suc i ≡ length xs - 1 = omega arith in
-    let shorter : length (take (suc i) xs) ≡ suc i = length-take-le (suc i) xs (omega arith) in
-    let below : drop 1 (reverse xs) ≡ reverse (take (suc i) xs) = drop-reverse 1 xs ∙ ap (λ k. reverse (take k xs)) (sym n) in
-    let second : reverse (take (suc i) xs) ≡ slice_index_or xs i d ∷ drop 1 (reverse (take (suc i) xs)) =
-    reverse-first (take (suc i) xs) i d (sym shorter) ∙ ap (λ v. v ∷ drop 1 (reverse (take (suc i) xs))) (get_or-take (suc i) xs i d (omega arith)) in
-    two-of (reverse xs) (reverse (take (suc i) xs)) (slice_index_or xs (suc i) d) (slice_index_or xs i d) (drop 1 (reverse (take (suc i) xs)))
-    (reverse-first xs (suc i) d h) below second
+-- one item is dropped, and the last one then changed
+pub reverse-set_below : {X : Type 0} (xs ys : List X) (i : ℕ) (x v : X) → xs ≡ ys ++ x ∷ [] → suc i ≡ length ys →
+    reverse (slice_set ys i v) ≡ v ∷ drop 2 (reverse xs)
+reverse-set_below xs ys i x v e h =
+    reverse-set ys i v h ∙ ap (λ l. v ∷ drop 2 l) (sym (ap reverse e ∙ reverse-append ys (x ∷ [])))
 
 -- an item of the list turned round
 pub slice_get-reverse : {X : Type 0} (n k : ℕ) (xs : List X) → n + suc k ≡ length xs → slice_get (reverse xs) k ≡ slice_get xs n
