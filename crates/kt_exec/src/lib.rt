@@ -1,7 +1,7 @@
 //! What runs code: a private state is settled, and its acts are answered, in place.
 //!
-//! The meaning stands in `kt_code`; here each instruction is carried out as that says. One whose place or operands are
-//! missing, which no state that fits meets, is answered by want of memory.
+//! The meaning stands in `kt_code`; here each instruction is carried out as that says. A state that fits meets none whose
+//! place or operands are missing.
 #![tactic(auto)]
 
 mod calls;
@@ -18,7 +18,6 @@ mod request_values;
 mod requests;
 mod settling;
 mod stack;
-mod top;
 mod went;
 
 pub use laws::rename_law;
