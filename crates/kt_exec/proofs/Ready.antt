@@ -1,5 +1,5 @@
 -- What the next instruction of a state that fits has.
-use Rattle.std.specs.Prelude.{◌≡◌, ℕ, suc, ◌<◌, List, ◌∷◌, length, slice_get, Option, None, Some, refl}
+use Rattle.std.specs.Prelude.{◌≡◌, ℕ, suc, ◌<◌, List, [], ◌∷◌, length, slice_get, Option, None, Some, refl}
 use Rattle.std.proofs.Common.{sym, ap, subst, ◌∙◌}
 use Rattle.std.proofs.lemmas.Option.{slice_get_within}
 use Rattle.kt_mem.specs.declared.memory.Value.{Value}
@@ -39,3 +39,12 @@ fits-each c p h = (h 1).0
 -- also behind a quiet step
 pub each-on : (c : Code) (p q : Private) → step c p ≡ Quiet q → HasEach c p → HasEach c q
 each-on c p q e h = λ k r on. h (suc k) r (q, e, on)
+
+-- a call is open
+pub fits-open : (c : Code) (p : Private) → Fits c p → p.frames ≡ [] → ⊥
+fits-open c p h e =
+    let next = each-next c p (fits-each c p h) in
+    none-some next.frame next.below (sym e ∙ next.first)
+  where
+    none-some : (f : Frame) (fs : List Frame) → [] ≡ f ∷ fs → ⊥
+    none-some f fs e = cc

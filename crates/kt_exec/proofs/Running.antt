@@ -1,13 +1,13 @@
 -- Where the quiet steps of a thread end.
 use Rattle.std.specs.Prelude.{◌≡◌, List, ◌∷◌, slice_get, Err}
 use Rattle.std.proofs.Common.{sym, ap, subst, ◌∙◌}
-use Rattle.kt_meaning.specs.Steps.{Traps, IsHead}
+use Rattle.kt_meaning.specs.Steps.{IsHead}
 use Rattle.kt_code.specs.Code.{Code}
 use Rattle.kt_code.specs.Machine.{step}
 use Rattle.kt_code.specs.Settling.{settle}
 use Rattle.kt_code.specs.declared.frame.Frame.{Frame}
 use Rattle.kt_code.specs.declared.private.Private.{Private}
-use Rattle.kt_exec.specs.Apart.{whole, HasOperands, StopsAt, IsTried, HasSettled, HasRun}
+use Rattle.kt_exec.specs.Apart.{whole, HasOperands, StopsAt, IsTried, HasSettled, HasHalted}
 use Rattle.kt_exec.specs.declared.went.Halt.{Halt}
 use Rattle.kt_exec.specs.declared.went.Halt.TheVariants as halt
 use Rattle.kt_exec.proofs.Settled.{settle-rests}
@@ -28,8 +28,8 @@ has-settled c x f g p q stops e head same operands =
     subst (λ g. StopsAt (slice_get c.instrs g.at)) (sym frame) stops)
 
 -- where its steps break off
-pub has-halted : {X : Type 0} (May : Type 0) (c : Code) (x : Private) (f g : Frame) (p q : Private) (e : Halt) →
-    IsTried May (step c (whole f p)) (whole f p) (whole g q) (Err e) → settle c (whole f p) ≡ settle c x → HasRun {X = X} c x g q (Err e)
+pub has-halted : (May : Type 0) (c : Code) (x : Private) (f g : Frame) (p q : Private) (e : Halt) →
+    IsTried May (step c (whole f p)) (whole f p) (whole g q) (Err e) → settle c (whole f p) ≡ settle c x → HasHalted c x g q e
 has-halted May c x f g p q (halt.Trap t) told same =
     (told.0 ∙ sym (settle-rests c (whole f p) (subst (λ s. IsHead s) (sym told.1) tt)) ∙ same, ap (step c) told.0 ∙ told.1)
 has-halted May c x f g p q (halt.NoMemory e) told same = tt

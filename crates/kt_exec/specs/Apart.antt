@@ -98,8 +98,12 @@ abbrev pub HasSettled : Code → Private → Frame → Private → Type 0
 HasSettled c x f p =
     (whole f p ≡ settle c x) × IsHead (step c (whole f p)) × HasOperands (slice_get c.instrs f.at) p.operands × StopsAt (slice_get c.instrs f.at)
 
--- the thread x has come to where settling ends; a trap that was met in the quiet steps is told
+-- its quiet steps have broken off: a trap that was met in them is told
+abbrev pub HasHalted : Code → Private → Frame → Private → Halt → Type 0
+HasHalted c x f p (halt.Trap t) = (whole f p ≡ settle c x) × (step c (whole f p) ≡ Traps t)
+HasHalted c x f p (halt.NoMemory e) = Unit {0}
+
+-- the thread x has come to where settling ends
 abbrev pub HasRun : {X : Type 0} → Code → Private → Frame → Private → Result X Halt → Type 0
 HasRun c x f p (Ok u) = HasSettled c x f p
-HasRun c x f p (Err (halt.Trap t)) = (whole f p ≡ settle c x) × (step c (whole f p) ≡ Traps t)
-HasRun c x f p (Err (halt.NoMemory e)) = Unit {0}
+HasRun c x f p (Err e) = HasHalted c x f p e
