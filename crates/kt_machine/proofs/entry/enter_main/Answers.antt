@@ -23,3 +23,6 @@ returns-in-Some-entry-clause-fits c =
     let program = subst (λ (q : Program). IsProgram q) c.version.ensures c.version_law.ensures.program in
     ok-fits p.code (code_entry c.args.v c.args.mode (Some p)) c.entry_state.result (returns-in-Some-entry-clause-entry c)
     (entry-fits p program c.compiled_law.ensures.acts c.compiled_law.ensures.fits c.args.v c.args.mode c.requires.mode)
+
+pub unreachable-requires : goal.unreachable-requires
+unreachable-requires c = ?
