@@ -1,4 +1,5 @@
 pub mod Asked
+pub mod Placed
 pub mod Ready
 pub mod Renamed
 pub mod RenamedNames
@@ -8,3 +9,4 @@ pub mod RenamedSteps
 pub mod Running
 pub mod Settled
 pub mod Standing
+pub mod Ticking

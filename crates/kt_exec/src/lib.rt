@@ -18,9 +18,11 @@ mod request_values;
 mod requests;
 mod settling;
 mod stack;
+mod ticks;
 mod went;
 
 pub use laws::rename_law;
 pub use pairs::NamePairs;
 pub use replies::answer;
 pub use settling::settle;
+pub use ticks::{Loan, stretch};
