@@ -1,5 +1,4 @@
 pub mod Asked
-pub mod Placed
 pub mod Ready
 pub mod Renamed
 pub mod RenamedNames

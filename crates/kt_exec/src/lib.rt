@@ -1,4 +1,4 @@
-//! What runs code: a private state is settled, and its acts are answered, in place.
+//! What runs code: a private state is settled, and its acts are answered, in place; a stretch takes its ticks on a copy.
 //!
 //! The meaning stands in `kt_code`; here each instruction is carried out as that says. A state that fits meets none whose
 //! place or operands are missing.
