@@ -21,11 +21,12 @@ pub has-settled : (c : Code) (x : Private) (f g : Frame) (p q : Private) → Sto
 has-settled c x f g p q stops e head same operands =
     let frame : g ≡ f = frame-same f g p.frames q.frames (ap (λ s. s.frames) e) in
     let ops = ap (λ s. s.operands) e in
-    let placed = subst (λ g. HasOperands (slice_get c.instrs g.at) p.operands) (sym frame) operands in
-    (e ∙ sym (settle-rests c (whole f p) head) ∙ same,
-    subst (λ s. IsHead (step c s)) (sym e) head,
-    subst (λ ops. HasOperands (slice_get c.instrs g.at) ops) (sym ops) placed,
-    subst (λ g. StopsAt (slice_get c.instrs g.at)) (sym frame) stops)
+    let placed = subst (λ g. HasOperands (slice_get c.instrs g.at) p.operands) (sym frame) operands in (
+      e ∙ sym (settle-rests c (whole f p) head) ∙ same,
+      subst (λ s. IsHead (step c s)) (sym e) head,
+      subst (λ ops. HasOperands (slice_get c.instrs g.at) ops) (sym ops) placed,
+      subst (λ g. StopsAt (slice_get c.instrs g.at)) (sym frame) stops,
+    )
 
 -- where its steps break off
 pub has-halted : (May : Type 0) (c : Code) (x : Private) (f g : Frame) (p q : Private) (e : Halt) →

@@ -10,11 +10,7 @@ use std::alloc::{AllocError, Global};
 use std::mem;
 
 /// The values of a function's locals at its entry: the arguments, and the undefined value for the others.
-fn first_locals(
-    alloc: Global,
-    count: u32,
-    arguments: &[Stored],
-) -> Result<Vec<Stored>, AllocError>
+fn first_locals(alloc: Global, count: u32, arguments: &[Stored]) -> Result<Vec<Stored>, AllocError>
     ensures { IfOk result (λ locals. locals.items ≡ arguments.now ++ replicate (count - length arguments.now) Value.Undef) }
 {
     let mut locals = Vec::with_capacity(alloc, count as usize)?;

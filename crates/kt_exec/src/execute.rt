@@ -25,12 +25,7 @@ pub(crate) fn step(code: &Code, frame: &mut Frame, rest: &mut Private) -> Result
 
 /// One instruction.
 #[inline]
-fn execute(
-    code: &Code,
-    instr: &Instr,
-    frame: &mut Frame,
-    rest: &mut Private,
-) -> Result<Went, Halt>
+fn execute(code: &Code, instr: &Instr, frame: &mut Frame, rest: &mut Private) -> Result<Went, Halt>
     requires operands { operands_of instr.now ≤ length rest.old.operands }
     requires room { HasRoom frame.old.at instr.now }
     ensures { Tries (Stops instr.now) (do_one code.now.entries instr.now) frame.old rest.old frame.new rest.new result }

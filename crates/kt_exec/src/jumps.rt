@@ -28,11 +28,7 @@ pub(crate) fn back(count: u32, frame: &mut Frame, rest: &Private) -> Result<Went
 
 /// Takes a value; at zero passes instructions.
 #[inline]
-pub(crate) fn skip_if_zero(
-    count: u32,
-    frame: &mut Frame,
-    rest: &mut Private,
-) -> Result<Went, Halt>
+pub(crate) fn skip_if_zero(count: u32, frame: &mut Frame, rest: &mut Private) -> Result<Went, Halt>
     requires operands { 1 ≤ length rest.old.operands }
     requires room { suc frame.old.at + count < 2 ^ 32 }
     ensures { TriesQuiet (does (Instr.SkipIfZero count)) frame.old rest.old frame.new rest.new result }

@@ -9,8 +9,8 @@ ghost use Rattle.kt_exec.specs.Operations.{of_one, of_two};
 use crate::went::{Halt, Went};
 use kt_code::{Frame, Instr, Private};
 use kt_mem::{
-    Stored, Trap, Value, add, add_elements, div, elements_between, equal, greater, greater_equal, less,
-    less_equal, mul, narrow, not, not_equal, rem, sub, sub_elements,
+    Stored, Trap, Value, add, add_elements, div, elements_between, equal, greater, greater_equal,
+    less, less_equal, mul, narrow, not, not_equal, rem, sub, sub_elements,
 };
 
 /// `p + i` and `i + p`, where an element has that many cells.

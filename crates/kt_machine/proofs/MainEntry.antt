@@ -53,6 +53,7 @@ main-entry p h does v g f found e =
   where
     same-first : (g k : ℕ) (f e : Function) → Some (g, f) ≡ Some (k, e) → g ≡ k
     same-first g k f e h = cc
+
     none-some : (x : ℕ) → None ≡ Some x → ⊥
     none-some x e = cc
 
