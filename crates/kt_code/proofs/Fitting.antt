@@ -1,11 +1,11 @@
 -- What fits code: every instruction that is met has its place and its operands where settling comes to a step of a thread.
-use Rattle.std.specs.Prelude.{◌≡◌, ℕ, zero, suc, pos, ◌≤◌, nat_le, Bool, true, false, List, [], ◌∷◌, length, reverse, take, drop, slice_get, Option, None, Some, if◌then◌else◌, refl}
+use Rattle.std.specs.Prelude.{◌≡◌, ℕ, zero, suc, ◌≤◌, nat_le, Bool, true, false, List, [], ◌∷◌, length, reverse, take, drop, slice_get, Option, None, Some, if◌then◌else◌, refl}
 use Rattle.std.proofs.Common.{arith, subst, ap, sym}
 use Rattle.std.proofs.lemmas.Bool.{false≢true}
 use Rattle.std.proofs.lemmas.Bool.Decides.{nat_tests}
 use Rattle.kt_mem.specs.declared.memory.Value.{Value}
 use Rattle.kt_meaning.specs.Requests.{act_of}
-use Rattle.kt_meaning.specs.Steps.{Step, Quiet, Acts, Traps, Ends, IsHead, Comes, or_rest, settle_within}
+use Rattle.kt_meaning.specs.Steps.{Step, Quiet, Acts, Traps, Ends, IsHead, or_rest, settle_within}
 use Rattle.kt_code.specs.Code.{Code}
 use Rattle.kt_code.specs.Machine.{Here, stuck, on_top, on_two, on_list, asks, calls, do_one, instr_step, here, frames_step, step}
 use Rattle.kt_code.specs.Requests.{operand_count, untyped}

@@ -1,3 +1,4 @@
 pub mod CodeSettling
 pub mod Fitting
+pub mod Rooms
 pub mod Turned

@@ -85,6 +85,12 @@ drop-past n xs h =
 pub drop-reverse : {X : Type 0} (n : ℕ) (xs : List X) → drop n (reverse xs) ≡ reverse (take (length xs - n) xs)
 drop-reverse n xs = elim (cases_lt (length xs) n) [ inl h ↦ let past : length xs ≤ n = omega (arith, h) in drop-past n xs past | inr h ↦ drop-within n xs h ]
 
+-- one item is dropped, and the last one then changed
+pub reverse-set_below : {X : Type 0} (xs ys : List X) (i : ℕ) (x v : X) → xs ≡ ys ++ x ∷ [] → suc i ≡ length ys →
+    reverse (slice_set ys i v) ≡ v ∷ drop 2 (reverse xs)
+reverse-set_below xs ys i x v e h =
+    reverse-set ys i v h ∙ ap (λ l. v ∷ drop 2 l) (sym (ap reverse e ∙ reverse-append ys (x ∷ [])))
+
 -- an item of the list turned round
 pub slice_get-reverse : {X : Type 0} (n k : ℕ) (xs : List X) → n + suc k ≡ length xs → slice_get (reverse xs) k ≡ slice_get xs n
 slice_get-reverse n k [] h = absurd (omega arith)

@@ -4,7 +4,7 @@ use Rattle.kt_mem.specs.declared.memory.Value.{Value}
 use Rattle.kt_mem.specs.declared.steps.Act.{Act}
 use Rattle.kt_mem.specs.declared.steps.Reply.{Reply}
 use Rattle.kt_mem.specs.declared.steps.Reply.TheVariants.{Done, Got, Trapped}
-use Rattle.kt_meaning.specs.Steps.{Step, Quiet, Acts, Traps, Ends, Comes, after_reply}
+use Rattle.kt_meaning.specs.Steps.{Step, Acts, Traps, Ends, Comes, after_reply}
 use Rattle.kt_meaning.specs.Requests.{IsReplyOf}
 use Rattle.kt_meaning.specs.Thread.{Restart}
 

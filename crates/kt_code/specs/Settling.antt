@@ -35,6 +35,18 @@ HasJumps instrs = (p : ℕ) (i : Instr) → slice_get instrs p ≡ Some i → Is
 abbrev pub HasPlaces : List Instr → Type 0
 HasPlaces instrs = length instrs < 2 ^ 32
 
+-- how many instructions an instruction may pass
+abbrev pub passed : Instr → ℕ
+passed (instr.Skip n) = n
+passed (instr.SkipIfZero n) = n
+passed (instr.And n) = n
+passed (instr.Or n) = n
+passed _ = 0
+
+-- the places behind an instruction, and behind those that it may pass, are below 2^32
+abbrev pub HasRoom : ℕ → Instr → Type 0
+HasRoom at i = suc at + passed i < 2 ^ 32
+
 -- ---- the measure
 
 abbrev pub is_tick : Option Instr → Bool

@@ -1,6 +1,6 @@
 //! Code.
-ghost use Rattle.std.specs.Prelude.{◌≡◌, ◌++◌, OnOk, OnErr, slice_get};
-ghost use Rattle.kt_code.specs.Settling.{HasJumps, HasPlaces};
+ghost use Rattle.std.specs.Prelude.{◌≡◌, ◌<◌, ◌++◌, length, OnOk, OnErr, slice_get};
+ghost use Rattle.kt_code.specs.Settling.{HasJumps, HasPlaces, HasRoom};
 
 use crate::instr::Instr;
 use kt_types::Points;
@@ -132,6 +132,16 @@ impl Code {
         ensures places { HasPlaces self.now.instrs }
     {
         self.instrs.as_slice()
+    }
+
+    /// The instruction at a place of the code.
+    #[inline]
+    pub fn instr(&self, at: u32) -> &Instr
+        requires { at < length self.now.instrs }
+        ensures value { slice_get self.now.instrs at ≡ Some result.now }
+        ensures room { HasRoom at result.now }
+    {
+        &self.instrs.as_slice()[at as usize]
     }
 
     /// For each function the place of its first instruction.

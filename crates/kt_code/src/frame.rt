@@ -1,7 +1,7 @@
 //! Open calls.
-ghost use Rattle.std.specs.Prelude.{◌≡◌, [], ◌∷◌, length, reverse, drop, MatchOption, OnOk, OnErr};
+ghost use Rattle.std.specs.Prelude.{◌≡◌, suc, ◌+◌, ◌-◌, ◌<◌, ◌^◌, [], ◌∷◌, length, reverse, drop, MatchOption, OnOk, OnErr};
 
-use kt_mem::Values;
+use crate::locals::Locals;
 use std::alloc::{AllocError, Global};
 use std::marker::Model;
 
@@ -10,7 +10,36 @@ use std::marker::Model;
 pub struct Frame {
     pub function: u32,
     pub at: u32,
-    pub locals: Values,
+    pub locals: Locals,
+}
+
+impl Frame {
+    /// The next instruction is taken.
+    #[inline]
+    pub fn next(&mut self)
+        requires { suc self.old.at < 2 ^ 32 }
+        ensures { self.new ≡ record self.old { at = suc self.old.at } }
+    {
+        self.at += 1;
+    }
+
+    /// The next instruction is taken, and so many behind it are passed.
+    #[inline]
+    pub fn pass(&mut self, count: u32)
+        requires { suc self.old.at + count < 2 ^ 32 }
+        ensures { self.new ≡ record self.old { at = suc self.old.at + count } }
+    {
+        self.at = self.at + 1 + count;
+    }
+
+    /// The next instruction is taken, and from there it goes so many back.
+    #[inline]
+    pub fn go_back(&mut self, count: u32)
+        requires { suc self.old.at < 2 ^ 32 }
+        ensures { self.new ≡ record self.old { at = suc self.old.at - count } }
+    {
+        self.at = (self.at + 1).saturating_sub(count);
+    }
 }
 
 impl Clone for Frame {

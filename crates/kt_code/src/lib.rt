@@ -8,12 +8,15 @@ mod code;
 mod frame;
 mod instr;
 mod laws;
+mod locals;
 mod operands;
 mod private;
+mod room;
 
 pub use code::{Code, Entries, Instrs};
 pub use frame::{Frame, Frames};
 pub use instr::Instr;
 pub use laws::{agreement_law, settle_law};
-pub use operands::{Operand, Operands};
+pub use locals::Locals;
+pub use operands::Operands;
 pub use private::{Head, Private};

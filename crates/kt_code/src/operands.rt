@@ -1,43 +1,16 @@
 //! The operands of a thread.
-ghost use Rattle.std.specs.Prelude.{◌≡◌, ◌≤◌, [], ◌∷◌, length, take, drop, reverse, slice_get, MatchOption, OnOk, OnErr};
+ghost use Rattle.std.specs.Prelude.{◌≡◌, ◌≤◌, [], ◌∷◌, length, take, drop, reverse, slice_get, OnOk, OnErr};
 
-use kt_mem::Value;
+use crate::room::have_room;
+use kt_mem::Stored;
 use std::alloc::{AllocError, Global};
 use std::marker::Model;
-
-/// A value among the operands.
-#[derive(Clone, Copy)]
-pub struct Operand {
-    value: Value,
-}
-
-impl Model for Operand {
-    ghost use Rattle.std.specs.Prelude.{refl};
-    ghost use Rattle.kt_mem.specs.declared.memory.Value.{Value as Item};
-
-    ghost Value = { Item };
-
-    ghost view = { λ o. o.value };
-
-    ghost inverse = { λ v. record { value = v } };
-
-    ghost inverse_ok = { λ a _. refl };
-}
-
-impl Operand {
-    /// The value.
-    pub fn value(self) -> Value
-        ensures { result ≡ self }
-    {
-        self.value
-    }
-}
 
 /// The values that instructions take and put, seen as a list with the topmost first.
 #[derive(Drop)]
 pub struct Operands {
     // The topmost stands last.
-    items: Vec<Operand>,
+    items: Vec<Stored>,
 }
 
 impl Model for Operands {
@@ -67,22 +40,22 @@ impl Operands {
     }
 
     /// The operand below so many others.
-    pub fn get(&self, below: usize) -> Option<Value>
+    pub fn get(&self, below: usize) -> Option<Stored>
         ensures { result ≡ slice_get self.now below }
     {
         let at = self.items.len().checked_sub(below)?.checked_sub(1)?;
-        self.items.as_slice().get(at).map(|operand| operand.value())
+        self.items.as_slice().get(at).copied()
     }
 
     /// The operands, of which the topmost stands last.
-    pub fn as_slice(&self) -> &[Operand]
+    pub fn as_slice(&self) -> &[Stored]
         ensures { result.now ≡ reverse self.now }
     {
         self.items.as_slice()
     }
 
     /// The topmost operands, so many, in the order in which they were put.
-    pub fn last(&self, count: usize) -> &[Operand]
+    pub fn last(&self, count: usize) -> &[Stored]
         requires { count ≤ length self.now }
         ensures { result.now ≡ reverse (take count self.now) }
     {
@@ -90,21 +63,64 @@ impl Operands {
         &items[items.len() - count..]
     }
 
+    /// The topmost operand.
+    #[inline]
+    pub fn first(&self) -> Stored
+        requires { 1 ≤ length self.now }
+        ensures { self.now ≡ result ∷ drop 1 self.now }
+    {
+        self.items[self.items.len() - 1]
+    }
+
+    /// The two topmost operands, the one below first.
+    #[inline]
+    pub fn first_two(&self) -> (Stored, Stored)
+        requires { 2 ≤ length self.now }
+        ensures { self.now ≡ result.1 ∷ result.0 ∷ drop 2 self.now }
+    {
+        let last = self.items.len() - 1;
+        (self.items[last - 1], self.items[last])
+    }
+
     /// Puts a value.
-    pub fn push(&mut self, value: Value) -> Result<(), AllocError>
+    #[inline]
+    pub fn push(&mut self, value: Stored) -> Result<(), AllocError>
         ensures ok { OnOk result (self.new ≡ value ∷ self.old) }
         ensures err { OnErr result (self.new ≡ self.old) }
     {
-        self.items.push(Operand { value })?;
+        have_room(&mut self.items)?;
+        self.items.push_reserved(value);
         Ok(())
     }
 
-    /// Takes the topmost value.
-    pub fn pop(&mut self) -> Option<Value>
-        ensures { MatchOption result ((self.old ≡ []) × (self.new ≡ [])) (λ v. self.old ≡ v ∷ self.new) }
+    /// Puts a value in the place of the topmost one.
+    #[inline]
+    pub fn replace(&mut self, value: Stored)
+        requires { 1 ≤ length self.old }
+        ensures { self.new ≡ value ∷ drop 1 self.old }
     {
-        let operand = self.items.pop()?;
-        Some(operand.value())
+        let last = self.items.len() - 1;
+        self.items[last] = value;
+    }
+
+    /// Puts a value in the place of the two topmost ones.
+    #[inline]
+    pub fn replace_two(&mut self, value: Stored)
+        requires { 2 ≤ length self.old }
+        ensures { self.new ≡ value ∷ drop 2 self.old }
+    {
+        let _ = self.items.take_last();
+        let last = self.items.len() - 1;
+        self.items[last] = value;
+    }
+
+    /// Drops the topmost operand.
+    #[inline]
+    pub fn drop_first(&mut self)
+        requires { 1 ≤ length self.old }
+        ensures { self.new ≡ drop 1 self.old }
+    {
+        let _ = self.items.take_last();
     }
 
     /// Drops the topmost operands, so many.

@@ -1,8 +1,11 @@
 pub mod Asked
+pub mod Ready
 pub mod Renamed
 pub mod RenamedNames
 pub mod RenamedOperations
 pub mod RenamedRequests
 pub mod RenamedSteps
+pub mod Running
 pub mod Settled
 pub mod Standing
+pub mod Ticking

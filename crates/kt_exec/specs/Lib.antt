@@ -2,3 +2,4 @@ pub mod Apart
 pub mod Operations
 pub mod Renaming
 pub mod Requests
+pub mod Stretching

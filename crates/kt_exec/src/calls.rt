@@ -1,14 +1,13 @@
 //! The ends of calls, and what a call is before it is entered.
-ghost use Rattle.std.specs.Prelude.{◌≡◌, Some, IfOk};
+ghost use Rattle.std.specs.Prelude.{◌≡◌, ◌≤◌, length, Some};
+ghost use Rattle.kt_meaning.specs.Steps.{IsHead};
 ghost use Rattle.kt_code.specs.Machine.{do_one, main_returns};
 ghost use Rattle.kt_code.specs.Settling.{head_of};
-ghost use Rattle.kt_exec.specs.Apart.{Steps, EndsInInt, does, taken};
+ghost use Rattle.kt_exec.specs.Apart.{Tries, Stops, EndsInInt, does, taken};
 
-use crate::top::Top;
-use crate::went::Went;
-use kt_code::{Code, Head, Instr, Private};
-use kt_mem::{Act, Trap, Value};
-use std::alloc::AllocError;
+use crate::went::{Halt, Went};
+use kt_code::{Code, Frame, Head, Instr, Private};
+use kt_mem::{Act, Stored, Trap, Value};
 
 /// How many calls may be open.
 const MOST_CALLS: usize = 200;
@@ -26,16 +25,13 @@ fn main_return(value: Value) -> Head
 
 /// The function returns the topmost value.
 #[tactic(auto, using(crate::proofs::Standing::main_returns_stands))]
-pub(crate) fn return_value(top: &mut Top, rest: &mut Private) -> Result<Went, AllocError>
-    ensures { Steps (does Instr.Return) top.old rest.old top.new rest.new result }
+pub(crate) fn return_value(frame: &mut Frame, rest: &mut Private) -> Result<Went, Halt>
+    requires { 1 ≤ length rest.old.operands }
+    ensures { Tries (Stops Instr.Return) (does Instr.Return) frame.old rest.old frame.new rest.new result }
 {
-    let Some(value) = rest.operands.pop() else {
-        return Err(AllocError);
-    };
-    rest.operands.push(value)?;
     match rest.frames.pop() {
-        Some(frame) => {
-            *top = Top::from_frame(frame);
+        Some(caller) => {
+            *frame = caller;
             Ok(Went::On)
         }
         None => Ok(Went::Stands),
@@ -43,28 +39,26 @@ pub(crate) fn return_value(top: &mut Top, rest: &mut Private) -> Result<Went, Al
 }
 
 /// What the return of `main` has come to, whose frame is the last one.
-#[tactic(auto, using(crate::proofs::Standing::returned))]
-pub(crate) fn last_return(top: &Top, rest: &Private) -> Result<Head, AllocError>
-    requires { EndsInInt (does Instr.Return (taken top.now rest.now) rest.now.operands) }
-    ensures { IfOk result (λ h. head_of (does Instr.Return (taken top.now rest.now) rest.now.operands) ≡ Some h) }
+pub(crate) fn last_return(frame: &Frame, rest: &Private) -> Head
+    requires operands { 1 ≤ length rest.now.operands }
+    requires stands { IsHead (does Instr.Return (taken frame.now rest.now) rest.now.operands) }
+    requires ends { EndsInInt (does Instr.Return (taken frame.now rest.now) rest.now.operands) }
+    ensures { head_of (does Instr.Return (taken frame.now rest.now) rest.now.operands) ≡ Some result }
 {
-    let Some(value) = rest.operands.get(0) else {
-        return Err(AllocError);
-    };
     match rest.frames.first() {
-        None => Ok(main_return(value)),
-        Some(_) => Err(AllocError),
+        None => main_return(rest.operands.first().value()),
+        Some(_) => unreachable!(),
     }
 }
 
 /// The function returns without a value.
-pub(crate) fn leave(top: &mut Top, rest: &mut Private) -> Result<Went, AllocError>
-    ensures { Steps (does Instr.Leave) top.old rest.old top.new rest.new result }
+pub(crate) fn leave(frame: &mut Frame, rest: &mut Private) -> Result<Went, Halt>
+    ensures { Tries (Stops Instr.Leave) (does Instr.Leave) frame.old rest.old frame.new rest.new result }
 {
     match rest.frames.pop() {
-        Some(frame) => {
-            *top = Top::from_frame(frame);
-            rest.operands.push(Value::Undef)?;
+        Some(caller) => {
+            *frame = caller;
+            rest.operands.push(Stored::of(Value::Undef))?;
             Ok(Went::On)
         }
         None => Ok(Went::Stands),
@@ -72,12 +66,13 @@ pub(crate) fn leave(top: &mut Top, rest: &mut Private) -> Result<Went, AllocErro
 }
 
 /// What the end of a thread has come to, whose frame is the last one.
-pub(crate) fn last_leave(top: &Top, rest: &Private) -> Result<Head, AllocError>
-    ensures { IfOk result (λ h. head_of (does Instr.Leave (taken top.now rest.now) rest.now.operands) ≡ Some h) }
+pub(crate) fn last_leave(frame: &Frame, rest: &Private) -> Head
+    requires { IsHead (does Instr.Leave (taken frame.now rest.now) rest.now.operands) }
+    ensures { head_of (does Instr.Leave (taken frame.now rest.now) rest.now.operands) ≡ Some result }
 {
     match rest.frames.first() {
-        None => Ok(Head::Act(Act::ThreadEnd)),
-        Some(_) => Err(AllocError),
+        None => Head::Act(Act::ThreadEnd),
+        Some(_) => unreachable!(),
     }
 }
 
@@ -87,19 +82,17 @@ pub(crate) fn call(
     function: u32,
     arguments: u32,
     locals: u32,
-    top: &Top,
+    frame: &Frame,
     rest: &Private,
-) -> Result<Head, AllocError>
-    ensures { IfOk result (λ h. head_of (do_one code.now.entries (Instr.Call function arguments locals) (taken top.now rest.now) rest.now.operands) ≡ Some h) }
+) -> Head
+    requires { arguments ≤ length rest.now.operands }
+    ensures { head_of (do_one code.now.entries (Instr.Call function arguments locals) (taken frame.now rest.now) rest.now.operands) ≡ Some result }
 {
-    if rest.operands.len() < arguments as usize {
-        return Err(AllocError);
-    }
     if code.entry(function).is_none() {
-        return Ok(Head::Trap(Trap::Uninit));
+        return Head::Trap(Trap::Uninit);
     }
     if rest.frames.count() >= MOST_CALLS - 1 {
-        return Ok(Head::Trap(Trap::Depth));
+        return Head::Trap(Trap::Depth);
     }
-    Ok(Head::Act(Act::Tick))
+    Head::Act(Act::Tick)
 }

@@ -1,62 +1,61 @@
 //! What a thread has come to where its next instruction is no quiet step.
-ghost use Rattle.std.specs.Prelude.{◌≡◌, Some, IfOk};
+ghost use Rattle.std.specs.Prelude.{◌≡◌, ◌≤◌, length, slice_get, Some, IfOk};
+ghost use Rattle.kt_meaning.specs.Steps.{IsHead};
 ghost use Rattle.kt_code.specs.Machine.{Here, do_one, step};
-ghost use Rattle.kt_code.specs.Settling.{head_of};
-ghost use Rattle.kt_exec.specs.Apart.{EndsInInt, does, taken, whole};
+ghost use Rattle.kt_code.specs.Settling.{head_of, operands_of};
+ghost use Rattle.kt_exec.specs.Apart.{EndsInInt, HasOperands, Stops, StopsAt, does, taken, whole};
 
 use crate::calls::{call, last_leave, last_return};
 use crate::requests::ask;
-use crate::top::Top;
-use kt_code::{Code, Head, Instr, Operands, Private};
+use kt_code::{Code, Frame, Head, Instr, Operands, Private};
 use kt_mem::Act;
 use kt_types::Ty;
 use std::alloc::{AllocError, Global};
 
 /// A load at the topmost value.
-fn load(ty: Ty, operands: &Operands) -> Result<Head, AllocError>
-    ensures load { (x : Here) → IfOk result (λ h. head_of (does (Instr.Load ty) x operands.now) ≡ Some h) }
-    ensures fetch { (x : Here) → IfOk result (λ h. head_of (does (Instr.Fetch ty) x operands.now) ≡ Some h) }
+fn load(ty: Ty, operands: &Operands) -> Head
+    requires { 1 ≤ length operands.now }
+    ensures load { (x : Here) → head_of (does (Instr.Load ty) x operands.now) ≡ Some result }
+    ensures fetch { (x : Here) → head_of (does (Instr.Fetch ty) x operands.now) ≡ Some result }
 {
-    match operands.get(0) {
-        Some(pointer) => Ok(Head::Act(Act::Load(pointer, ty))),
-        None => Err(AllocError),
-    }
+    Head::Act(Act::Load(operands.first().value(), ty))
 }
 
 /// A store of the topmost value at the one below.
-fn store(ty: Ty, operands: &Operands) -> Result<Head, AllocError>
-    ensures { (x : Here) → IfOk result (λ h. head_of (does (Instr.Store ty) x operands.now) ≡ Some h) }
+fn store(ty: Ty, operands: &Operands) -> Head
+    requires { 2 ≤ length operands.now }
+    ensures { (x : Here) → head_of (does (Instr.Store ty) x operands.now) ≡ Some result }
 {
-    match (operands.get(1), operands.get(0)) {
-        (Some(pointer), Some(value)) => Ok(Head::Act(Act::Store(pointer, ty, value))),
-        _ => Err(AllocError),
-    }
+    let (pointer, value) = operands.first_two();
+    Head::Act(Act::Store(pointer.value(), ty, value.value()))
 }
 
 /// A store of the topmost value at the one below the one before.
-fn store_old(ty: Ty, operands: &Operands) -> Result<Head, AllocError>
-    ensures { (x : Here) → IfOk result (λ h. head_of (does (Instr.StoreOld ty) x operands.now) ≡ Some h) }
+fn store_old(ty: Ty, operands: &Operands) -> Head
+    requires { 3 ≤ length operands.now }
+    ensures { (x : Here) → head_of (does (Instr.StoreOld ty) x operands.now) ≡ Some result }
 {
-    match (operands.get(2), operands.get(0)) {
-        (Some(pointer), Some(value)) => Ok(Head::Act(Act::Store(pointer, ty, value))),
-        _ => Err(AllocError),
+    match operands.last(3) {
+        [pointer, _, value] => Head::Act(Act::Store(pointer.value(), ty, value.value())),
+        _ => unreachable!(),
     }
 }
 
-/// What a thread has come to whose first frame stands apart: its act, its end, or the trap of a call.
+/// What a thread has come to whose latest frame stands apart: its act, its end, or the trap of a call or a request.
 pub(crate) fn come_to(
     alloc: Global,
     code: &Code,
-    top: &Top,
+    frame: &Frame,
     rest: &Private,
 ) -> Result<Head, AllocError>
-    requires { EndsInInt (step code.now (whole top.now rest.now)) }
-    ensures { IfOk result (λ h. head_of (step code.now (whole top.now rest.now)) ≡ Some h) }
+    requires operands { HasOperands (slice_get code.now.instrs frame.now.at) rest.now.operands }
+    requires stops { StopsAt (slice_get code.now.instrs frame.now.at) }
+    requires stands { IsHead (step code.now (whole frame.now rest.now)) }
+    requires ends { EndsInInt (step code.now (whole frame.now rest.now)) }
+    ensures { IfOk result (λ h. head_of (step code.now (whole frame.now rest.now)) ≡ Some h) }
 {
-    match code.instrs().get(top.at() as usize) {
-        Some(instr) => come_to_at(alloc, code, instr, top, rest),
-        None => Err(AllocError),
-    }
+    let instr = code.instr(frame.at);
+    come_to_at(alloc, code, instr, frame, rest)
 }
 
 /// What a thread has come to that stands at this instruction.
@@ -64,26 +63,29 @@ fn come_to_at(
     alloc: Global,
     code: &Code,
     instr: &Instr,
-    top: &Top,
+    frame: &Frame,
     rest: &Private,
 ) -> Result<Head, AllocError>
-    requires { EndsInInt (do_one code.now.entries instr.now (taken top.now rest.now) rest.now.operands) }
-    ensures { IfOk result (λ h. head_of (do_one code.now.entries instr.now (taken top.now rest.now) rest.now.operands) ≡ Some h) }
+    requires operands { operands_of instr.now ≤ length rest.now.operands }
+    requires stops { Stops instr.now }
+    requires stands { IsHead (do_one code.now.entries instr.now (taken frame.now rest.now) rest.now.operands) }
+    requires ends { EndsInInt (do_one code.now.entries instr.now (taken frame.now rest.now) rest.now.operands) }
+    ensures { IfOk result (λ h. head_of (do_one code.now.entries instr.now (taken frame.now rest.now) rest.now.operands) ≡ Some h) }
 {
     match instr {
-        Instr::Load(ty) => load(*ty, &rest.operands),
-        Instr::Fetch(ty) => load(*ty, &rest.operands),
-        Instr::Store(ty) => store(*ty, &rest.operands),
-        Instr::StoreOld(ty) => store_old(*ty, &rest.operands),
-        Instr::Ask(request) => ask(alloc, request.get(), top, rest),
+        Instr::Load(ty) => Ok(load(*ty, &rest.operands)),
+        Instr::Fetch(ty) => Ok(load(*ty, &rest.operands)),
+        Instr::Store(ty) => Ok(store(*ty, &rest.operands)),
+        Instr::StoreOld(ty) => Ok(store_old(*ty, &rest.operands)),
+        Instr::Ask(request) => ask(alloc, request.get(), frame, rest),
         Instr::Tick => Ok(Head::Act(Act::Tick)),
         Instr::Call {
             function,
             arguments,
             locals,
-        } => call(code, *function, *arguments, *locals, top, rest),
-        Instr::Return => last_return(top, rest),
-        Instr::Leave => last_leave(top, rest),
-        _ => Err(AllocError),
+        } => Ok(call(code, *function, *arguments, *locals, frame, rest)),
+        Instr::Return => Ok(last_return(frame, rest)),
+        Instr::Leave => Ok(last_leave(frame, rest)),
+        _ => unreachable!(),
     }
 }

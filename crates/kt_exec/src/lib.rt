@@ -1,7 +1,7 @@
-//! What runs code: a private state is settled, and its acts are answered, in place.
+//! What runs code: a private state is settled, and its acts are answered, in place; a stretch takes its ticks on a copy.
 //!
-//! The meaning stands in `kt_code`; here each instruction is carried out as that says. One whose place or operands are
-//! missing, which no state that fits meets, is answered by want of memory.
+//! The meaning stands in `kt_code`; here each instruction is carried out as that says. A state that fits meets none whose
+//! place or operands are missing.
 #![tactic(auto)]
 
 mod calls;
@@ -18,10 +18,11 @@ mod request_values;
 mod requests;
 mod settling;
 mod stack;
-mod top;
+mod ticks;
 mod went;
 
 pub use laws::rename_law;
 pub use pairs::NamePairs;
 pub use replies::answer;
 pub use settling::settle;
+pub use ticks::{Loan, stretch};

@@ -1,22 +1,20 @@
 //! Operations on the topmost values.
-ghost use Rattle.std.specs.Prelude.{◌≡◌};
+ghost use Rattle.std.specs.Prelude.{◌≡◌, ◌≤◌, ◌<◌, ◌^◌, suc, length};
 ghost use Rattle.kt_mem.specs.Elements.{elements_between};
 ghost use Rattle.kt_meaning.specs.Operations.{element_sum};
 ghost use Rattle.kt_code.specs.Machine.{unary, binary};
-ghost use Rattle.kt_exec.specs.Apart.{Steps};
+ghost use Rattle.kt_exec.specs.Apart.{TriesQuiet};
 ghost use Rattle.kt_exec.specs.Operations.{of_one, of_two};
 
-use crate::stack::{give_back, put};
-use crate::top::Top;
-use crate::went::Went;
-use kt_code::{Instr, Private};
+use crate::went::{Halt, Went};
+use kt_code::{Frame, Instr, Private};
 use kt_mem::{
-    Trap, Value, add, add_elements, div, elements_between, equal, greater, greater_equal, less,
-    less_equal, mul, narrow, not, not_equal, rem, sub, sub_elements,
+    Stored, Trap, Value, add, add_elements, div, elements_between, equal, greater, greater_equal,
+    less, less_equal, mul, narrow, not, not_equal, rem, sub, sub_elements,
 };
-use std::alloc::AllocError;
 
 /// `p + i` and `i + p`, where an element has that many cells.
+#[inline]
 fn element_after(a: Value, b: Value, width: u32) -> Result<Value, Trap>
     ensures { result ≡ element_sum width a b }
 {
@@ -27,6 +25,7 @@ fn element_after(a: Value, b: Value, width: u32) -> Result<Value, Trap>
 }
 
 /// How many elements lie between two pointers. Elements without cells lie at one place.
+#[inline]
 fn between(a: Value, b: Value, width: u32) -> Result<Value, Trap>
     ensures { result ≡ elements_between a b width }
 {
@@ -40,6 +39,7 @@ fn between(a: Value, b: Value, width: u32) -> Result<Value, Trap>
 }
 
 /// What an operation gives for one operand.
+#[inline(always)]
 fn value_of_one(instr: &Instr, a: Value) -> Result<Value, Trap>
     ensures { result ≡ of_one instr.now a }
 {
@@ -52,6 +52,7 @@ fn value_of_one(instr: &Instr, a: Value) -> Result<Value, Trap>
 }
 
 /// What an operation gives for two operands.
+#[inline(always)]
 fn value_of_two(instr: &Instr, a: Value, b: Value) -> Result<Value, Trap>
     ensures { result ≡ of_two instr.now a b }
 {
@@ -74,42 +75,61 @@ fn value_of_two(instr: &Instr, a: Value, b: Value) -> Result<Value, Trap>
     }
 }
 
+/// What an operation gives for one operand. A number, the usual one, goes a way of its own.
+#[inline]
+fn on_one(instr: &Instr, a: Stored) -> Result<Stored, Trap>
+    ensures { result ≡ of_one instr.now a }
+{
+    let value = match a.number() {
+        Some(x) => value_of_one(instr, Value::Num(x))?,
+        None => value_of_one(instr, a.value())?,
+    };
+    Ok(Stored::of(value))
+}
+
+/// What an operation gives for two operands. Numbers, the usual ones, go a way of their own.
+#[inline]
+fn on_two(instr: &Instr, a: Stored, b: Stored) -> Result<Stored, Trap>
+    ensures { result ≡ of_two instr.now a b }
+{
+    let value = match (a.number(), b.number()) {
+        (Some(x), Some(y)) => value_of_two(instr, Value::Num(x), Value::Num(y))?,
+        _ => value_of_two(instr, a.value(), b.value())?,
+    };
+    Ok(Stored::of(value))
+}
+
 /// An operation on the topmost value.
+#[inline]
 pub(crate) fn operate_on_one(
     instr: &Instr,
-    top: &mut Top,
+    frame: &mut Frame,
     rest: &mut Private,
-) -> Result<Went, AllocError>
-    ensures { Steps (unary (of_one instr.now)) top.old rest.old top.new rest.new result }
+) -> Result<Went, Halt>
+    requires operands { 1 ≤ length rest.old.operands }
+    requires room { suc frame.old.at < 2 ^ 32 }
+    ensures { TriesQuiet (unary (of_one instr.now)) frame.old rest.old frame.new rest.new result }
 {
-    let Some(a) = rest.operands.pop() else {
-        return Err(AllocError);
-    };
-    match value_of_one(instr, a) {
-        Ok(value) => put(value, top, rest),
-        Err(trap) => give_back(a, trap, &mut rest.operands),
-    }
+    let value = on_one(instr, rest.operands.first())?;
+    rest.operands.replace(value);
+    frame.next();
+    Ok(Went::On)
 }
 
 /// An operation on the two topmost values, the right one above the left one.
+#[inline]
 pub(crate) fn operate_on_two(
     instr: &Instr,
-    top: &mut Top,
+    frame: &mut Frame,
     rest: &mut Private,
-) -> Result<Went, AllocError>
-    ensures { Steps (binary (of_two instr.now)) top.old rest.old top.new rest.new result }
+) -> Result<Went, Halt>
+    requires operands { 2 ≤ length rest.old.operands }
+    requires room { suc frame.old.at < 2 ^ 32 }
+    ensures { TriesQuiet (binary (of_two instr.now)) frame.old rest.old frame.new rest.new result }
 {
-    let Some(b) = rest.operands.pop() else {
-        return Err(AllocError);
-    };
-    let Some(a) = rest.operands.pop() else {
-        return Err(AllocError);
-    };
-    match value_of_two(instr, a, b) {
-        Ok(value) => put(value, top, rest),
-        Err(trap) => {
-            rest.operands.push(a)?;
-            give_back(b, trap, &mut rest.operands)
-        }
-    }
+    let (a, b) = rest.operands.first_two();
+    let value = on_two(instr, a, b)?;
+    rest.operands.replace_two(value);
+    frame.next();
+    Ok(Went::On)
 }

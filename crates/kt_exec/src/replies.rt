@@ -1,20 +1,20 @@
 //! How a thread goes on after its act.
-ghost use Rattle.std.specs.Prelude.{◌≡◌, ◌∷◌, OnOk};
+ghost use Rattle.std.specs.Prelude.{◌≡◌, ◌≤◌, ◌<◌, ◌^◌, suc, length, slice_get, OnOk};
 ghost use Rattle.kt_types.specs.declared.kinds.Ty.{Ty};
 ghost use Rattle.kt_mem.specs.declared.steps.Reply.{Reply};
 ghost use Rattle.kt_meaning.specs.Requests.{told};
 ghost use Rattle.kt_meaning.specs.Steps.{after_reply};
 ghost use Rattle.kt_code.specs.Agreement.{IsReplyTo};
-ghost use Rattle.kt_code.specs.Machine.{do_one, stands, step};
-ghost use Rattle.kt_code.specs.Settling.{Fits, IsAct};
-ghost use Rattle.kt_exec.specs.Apart.{Answers, GoesOn, does, taken, whole};
+ghost use Rattle.kt_code.specs.Machine.{do_one, step};
+ghost use Rattle.kt_code.specs.Requests.{operand_count};
+ghost use Rattle.kt_code.specs.Settling.{Fits, HasRoom, IsAct, operands_of};
+ghost use Rattle.kt_exec.specs.Apart.{Answers, GoesOn, HasOperands, does, whole};
 
 use crate::entering::enter;
 use crate::request_values::{change, request_value};
 use crate::requests::operand_count;
-use crate::top::Top;
-use kt_code::{Code, Instr, Private};
-use kt_mem::{Reply, Value};
+use kt_code::{Code, Frame, Instr, Private};
+use kt_mem::{Reply, Stored, Value};
 use kt_tree::Request;
 use std::alloc::{AllocError, Global};
 
@@ -28,51 +28,60 @@ fn told(reply: Reply) -> Value
     }
 }
 
-/// Puts a value, and goes on.
-fn go_on(value: Value, top: &mut Top, rest: &mut Private) -> Result<(), AllocError>
-    ensures { OnOk result (whole top.new rest.new ≡ stands (taken top.old rest.old) (value ∷ rest.old.operands)) }
+/// What is loaded takes the pointer's place.
+fn load(reply: Reply, frame: &mut Frame, rest: &mut Private) -> Result<(), AllocError>
+    requires operands { 1 ≤ length rest.old.operands }
+    requires room { suc frame.old.at < 2 ^ 32 }
+    ensures { (ty : Ty) → Answers (does (Instr.Load ty)) reply frame.old rest.old frame.new rest.new result }
 {
-    top.next()?;
-    rest.operands.push(value)?;
+    rest.operands.replace(Stored::of(told(reply)));
+    frame.next();
     Ok(())
 }
 
-/// What is loaded takes the pointer's place.
-fn load(reply: Reply, top: &mut Top, rest: &mut Private) -> Result<(), AllocError>
-    ensures { (ty : Ty) → Answers (does (Instr.Load ty)) reply top.old rest.old top.new rest.new result }
-{
-    rest.operands.discard(1);
-    go_on(told(reply), top, rest)
-}
-
 /// What is loaded is put on the pointer.
-fn fetch(reply: Reply, top: &mut Top, rest: &mut Private) -> Result<(), AllocError>
-    ensures { (ty : Ty) → Answers (does (Instr.Fetch ty)) reply top.old rest.old top.new rest.new result }
+fn fetch(reply: Reply, frame: &mut Frame, rest: &mut Private) -> Result<(), AllocError>
+    requires operands { 1 ≤ length rest.old.operands }
+    requires room { suc frame.old.at < 2 ^ 32 }
+    ensures { (ty : Ty) → Answers (does (Instr.Fetch ty)) reply frame.old rest.old frame.new rest.new result }
 {
-    go_on(told(reply), top, rest)
+    rest.operands.push(Stored::of(told(reply)))?;
+    frame.next();
+    Ok(())
 }
 
 /// What is stored stays, and the pointer goes.
-fn store(top: &mut Top, rest: &mut Private) -> Result<(), AllocError>
-    ensures { (ty : Ty) (reply : Reply) → Answers (does (Instr.Store ty)) reply top.old rest.old top.new rest.new result }
+fn store(frame: &mut Frame, rest: &mut Private) -> Result<(), AllocError>
+    requires operands { 2 ≤ length rest.old.operands }
+    requires room { suc frame.old.at < 2 ^ 32 }
+    ensures { (ty : Ty) (reply : Reply) → Answers (does (Instr.Store ty)) reply frame.old rest.old frame.new rest.new result }
 {
-    let Some(value) = rest.operands.pop() else {
-        return Ok(());
-    };
-    rest.operands.discard(1);
-    go_on(value, top, rest)
+    let value = rest.operands.first();
+    rest.operands.replace_two(value);
+    frame.next();
+    Ok(())
 }
 
 /// The value before stays; what is stored and the pointer go.
-fn store_old(top: &mut Top, rest: &mut Private) -> Result<(), AllocError>
-    ensures { (ty : Ty) (reply : Reply) → Answers (does (Instr.StoreOld ty)) reply top.old rest.old top.new rest.new result }
+fn store_old(frame: &mut Frame, rest: &mut Private) -> Result<(), AllocError>
+    requires operands { 3 ≤ length rest.old.operands }
+    requires room { suc frame.old.at < 2 ^ 32 }
+    ensures { (ty : Ty) (reply : Reply) → Answers (does (Instr.StoreOld ty)) reply frame.old rest.old frame.new rest.new result }
 {
-    rest.operands.discard(1);
-    let Some(old) = rest.operands.pop() else {
-        return Ok(());
-    };
-    rest.operands.discard(1);
-    go_on(old, top, rest)
+    rest.operands.drop_first();
+    let old = rest.operands.first();
+    rest.operands.replace_two(old);
+    frame.next();
+    Ok(())
+}
+
+/// A tick changes nothing.
+fn tick(frame: &mut Frame, rest: &Private) -> Result<(), AllocError>
+    requires { suc frame.old.at < 2 ^ 32 }
+    ensures { (reply : Reply) → Answers (does Instr.Tick) reply frame.old rest.now frame.new rest.now result }
+{
+    frame.next();
+    Ok(())
 }
 
 /// What a request gives takes its operands' place.
@@ -80,19 +89,20 @@ fn ask(
     alloc: Global,
     request: &Request,
     reply: Reply,
-    top: &mut Top,
+    frame: &mut Frame,
     rest: &mut Private,
 ) -> Result<(), AllocError>
-    ensures { Answers (does (Instr.Ask request.now)) reply top.old rest.old top.new rest.new result }
+    requires operands { operand_count request.now ≤ length rest.old.operands }
+    requires room { suc frame.old.at < 2 ^ 32 }
+    ensures { Answers (does (Instr.Ask request.now)) reply frame.old rest.old frame.new rest.new result }
 {
     let count = operand_count(request);
-    if rest.operands.len() < count {
-        return Ok(());
-    }
-    let value = request_value(request, rest.operands.last(count), told(reply), top, rest);
-    change(alloc, request, top, rest);
+    let value = request_value(request, rest.operands.last(count), told(reply), frame, rest);
+    change(alloc, request, frame, rest);
     rest.operands.discard(count);
-    go_on(value, top, rest)
+    rest.operands.push(Stored::of(value))?;
+    frame.next();
+    Ok(())
 }
 
 /// How a thread goes on after the act of this instruction.
@@ -101,41 +111,43 @@ fn go_on_after(
     code: &Code,
     instr: &Instr,
     reply: Reply,
-    top: &mut Top,
+    frame: &mut Frame,
     rest: &mut Private,
 ) -> Result<(), AllocError>
-    ensures { Answers (do_one code.now.entries instr.now) reply top.old rest.old top.new rest.new result }
+    requires operands { operands_of instr.now ≤ length rest.old.operands }
+    requires room { HasRoom frame.old.at instr.now }
+    ensures { Answers (do_one code.now.entries instr.now) reply frame.old rest.old frame.new rest.new result }
 {
     match instr {
-        Instr::Load(_) => load(reply, top, rest),
-        Instr::Fetch(_) => fetch(reply, top, rest),
-        Instr::Store(_) => store(top, rest),
-        Instr::StoreOld(_) => store_old(top, rest),
-        Instr::Ask(request) => ask(alloc, request.get(), reply, top, rest),
-        Instr::Tick => top.next(),
+        Instr::Load(_) => load(reply, frame, rest),
+        Instr::Fetch(_) => fetch(reply, frame, rest),
+        Instr::Store(_) => store(frame, rest),
+        Instr::StoreOld(_) => store_old(frame, rest),
+        Instr::Ask(request) => ask(alloc, request.get(), reply, frame, rest),
+        Instr::Tick => tick(frame, rest),
         Instr::Call {
             function,
             arguments,
             locals,
-        } => enter(alloc, code, *function, *arguments, *locals, top, rest),
+        } => enter(alloc, code, *function, *arguments, *locals, frame, rest),
+        // No act.
         _ => Ok(()),
     }
 }
 
-/// How a thread whose first frame stands apart goes on after its act.
+/// How a thread whose latest frame stands apart goes on after its act.
 fn go_on_apart(
     alloc: Global,
     code: &Code,
     reply: Reply,
-    top: &mut Top,
+    frame: &mut Frame,
     rest: &mut Private,
 ) -> Result<(), AllocError>
-    ensures { OnOk result (GoesOn (step code.now (whole top.old rest.old)) reply (whole top.new rest.new)) }
+    requires { HasOperands (slice_get code.now.instrs frame.old.at) rest.old.operands }
+    ensures { OnOk result (GoesOn (step code.now (whole frame.old rest.old)) reply (whole frame.new rest.new)) }
 {
-    match code.instrs().get(top.at() as usize) {
-        Some(instr) => go_on_after(alloc, code, instr, reply, top, rest),
-        None => Ok(()),
-    }
+    let instr = code.instr(frame.at);
+    go_on_after(alloc, code, instr, reply, frame, rest)
 }
 
 /// Tells a thread that stands at an act what became of it: it goes on, but stays as it is where the act trapped. Where
@@ -155,11 +167,10 @@ pub fn answer(
     if matches!(reply, Reply::Trapped(_)) {
         return Ok(());
     }
-    let Some(frame) = private.frames.pop() else {
-        return Ok(());
+    let Some(mut frame) = private.frames.pop() else {
+        unreachable!();
     };
-    let mut top = Top::from_frame(frame);
-    go_on_apart(alloc, code, reply, &mut top, private)?;
-    private.frames.push(top.into_frame())?;
+    go_on_apart(alloc, code, reply, &mut frame, private)?;
+    private.frames.push(frame)?;
     Ok(())
 }

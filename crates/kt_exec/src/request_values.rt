@@ -6,9 +6,8 @@ ghost use Rattle.kt_exec.specs.Apart.{taken, restart_of, with_restart};
 ghost use Rattle.kt_exec.specs.Requests.{changed_for};
 
 use crate::requests::low_byte;
-use crate::top::Top;
-use kt_code::{Operand, Private};
-use kt_mem::{Act, KeptLocal, KeptLocals, Mode, Value, truth};
+use kt_code::{Frame, Private};
+use kt_mem::{Act, KeptLocal, KeptLocals, Mode, Stored, Value, truth};
 use kt_tree::Request;
 use std::alloc::Global;
 
@@ -53,7 +52,7 @@ fn kept_value(function: u32, n: u32, rest: &Private) -> Option<Value>
 }
 
 /// What a store gives.
-fn stored_value(values: &[Operand]) -> Value
+fn stored_value(values: &[Stored]) -> Value
     ensures { result ≡ stored_value values.now }
 {
     match values {
@@ -63,7 +62,7 @@ fn stored_value(values: &[Operand]) -> Value
 }
 
 /// What `putchar` gives.
-fn byte_value(values: &[Operand]) -> Value
+fn byte_value(values: &[Stored]) -> Value
     ensures { result ≡ byte_value values.now }
 {
     match values {
@@ -85,12 +84,12 @@ fn byte_of(value: Value) -> Value
 /// What a request gives, where the reply told this value.
 pub(crate) fn request_value(
     request: &Request,
-    values: &[Operand],
+    values: &[Stored],
     told: Value,
-    top: &Top,
+    frame: &Frame,
     rest: &Private,
 ) -> Value
-    ensures { result ≡ request_value top.now.function (restart_of rest.now) request.now values.now told }
+    ensures { result ≡ request_value frame.now.function (restart_of rest.now) request.now values.now told }
 {
     match request {
         Request::Load => told,
@@ -110,18 +109,18 @@ pub(crate) fn request_value(
         Request::IsUpdating => truth(is_updating(rest.mode)),
         Request::IsUpdatingFrom(n) => truth(is_updating_from(*n, rest.mode)),
         Request::Automigrate => Value::Undef,
-        Request::MigrateLocal(n) => truth(kept_value(top.function(), *n, rest).is_some()),
+        Request::MigrateLocal(n) => truth(kept_value(frame.function, *n, rest).is_some()),
     }
 }
 
 /// What the act of a request changes in the thread itself.
-pub(crate) fn change(alloc: Global, request: &Request, top: &mut Top, rest: &mut Private)
-    ensures place { taken top.new rest.new ≡ changed_for request.now (taken top.old rest.old) }
+pub(crate) fn change(alloc: Global, request: &Request, frame: &mut Frame, rest: &mut Private)
+    ensures place { taken frame.new rest.new ≡ changed_for request.now (taken frame.old rest.old) }
     ensures operands { rest.new.operands ≡ rest.old.operands }
 {
     match request {
         Request::Point(n) => end_update(alloc, *n, rest),
-        Request::MigrateLocal(n) => migrate_local(*n, top, rest),
+        Request::MigrateLocal(n) => migrate_local(*n, frame, rest),
         _ => {}
     }
 }
@@ -137,10 +136,10 @@ fn end_update(alloc: Global, n: u32, rest: &mut Private)
 }
 
 /// A local has the value that an update kept for it, where there is one.
-fn migrate_local(n: u32, top: &mut Top, rest: &Private)
-    ensures { top.new ≡ record top.old { locals = locals_after (Act.MigrateLocal top.old.function n) (restart_of rest.now) top.old.locals } }
+fn migrate_local(n: u32, frame: &mut Frame, rest: &Private)
+    ensures { frame.new ≡ record frame.old { locals = locals_after (Act.MigrateLocal frame.old.function n) (restart_of rest.now) frame.old.locals } }
 {
-    if let Some(value) = kept_value(top.function(), n, rest) {
-        top.set_local(n, value);
+    if let Some(value) = kept_value(frame.function, n, rest) {
+        frame.locals.set(n, Stored::of(value));
     }
 }

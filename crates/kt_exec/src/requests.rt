@@ -1,14 +1,13 @@
 //! The acts that requests are.
-ghost use Rattle.std.specs.Prelude.{◌≡◌, [], ◌∷◌, None, Some, IfOk, if◌then◌else◌};
+ghost use Rattle.std.specs.Prelude.{◌≡◌, ◌≤◌, length, [], ◌∷◌, None, Some, IfOk, if◌then◌else◌};
 ghost use Rattle.kt_meaning.specs.Requests.{act_of, byte_of, pieces, printed};
 ghost use Rattle.kt_code.specs.Requests.{operand_count, part_count, untyped};
 ghost use Rattle.kt_code.specs.Settling.{head_of};
 ghost use Rattle.kt_exec.specs.Apart.{does, taken};
 ghost use Rattle.kt_exec.specs.Requests.{operand_piece, act_without, act_with, act_of_number};
 
-use crate::top::Top;
-use kt_code::{Head, Instr, Operand, Private};
-use kt_mem::{Act, Piece, Pieces, Trap, Value};
+use kt_code::{Frame, Head, Instr, Private};
+use kt_mem::{Act, Piece, Pieces, Stored, Trap, Value};
 use kt_tree::{Part, Request};
 use kt_types::Text;
 use sqlite_items::Items;
@@ -83,7 +82,7 @@ fn operand_piece(part: &Part, value: Value) -> Option<Piece>
 fn pieces(
     alloc: Global,
     parts: &[Part],
-    values: &[Operand],
+    values: &[Stored],
 ) -> Result<Result<Pieces, Trap>, AllocError>
     ensures { IfOk result (λ told. told ≡ pieces parts.now values.now) }
 {
@@ -118,7 +117,7 @@ fn text(alloc: Global, bytes: &Items<u8>) -> Result<Text, AllocError>
 }
 
 /// What `printf` is.
-fn print(alloc: Global, parts: &[Part], values: &[Operand]) -> Result<Result<Act, Trap>, AllocError>
+fn print(alloc: Global, parts: &[Part], values: &[Stored]) -> Result<Result<Act, Trap>, AllocError>
     ensures { IfOk result (λ told. told ≡ printed (pieces parts.now values.now)) }
 {
     match pieces(alloc, parts, values)? {
@@ -194,7 +193,7 @@ pub(crate) fn act_of(
     alloc: Global,
     function: u32,
     request: &Request,
-    values: &[Operand],
+    values: &[Stored],
 ) -> Result<Result<Act, Trap>, AllocError>
     ensures { IfOk result (λ told. told ≡ act_of untyped function request.now None values.now) }
 {
@@ -212,16 +211,14 @@ pub(crate) fn act_of(
 pub(crate) fn ask(
     alloc: Global,
     request: &Request,
-    top: &Top,
+    frame: &Frame,
     rest: &Private,
 ) -> Result<Head, AllocError>
-    ensures { IfOk result (λ head. head_of (does (Instr.Ask request.now) (taken top.now rest.now) rest.now.operands) ≡ Some head) }
+    requires { operand_count request.now ≤ length rest.now.operands }
+    ensures { IfOk result (λ head. head_of (does (Instr.Ask request.now) (taken frame.now rest.now) rest.now.operands) ≡ Some head) }
 {
     let count = operand_count(request);
-    if rest.operands.len() < count {
-        return Err(AllocError);
-    }
-    match act_of(alloc, top.function(), request, rest.operands.last(count))? {
+    match act_of(alloc, frame.function, request, rest.operands.last(count))? {
         Ok(act) => Ok(Head::Act(act)),
         Err(trap) => Ok(Head::Trap(trap)),
     }

@@ -1,54 +1,42 @@
 //! Values put and taken.
-ghost use Rattle.std.specs.Prelude.{◌≡◌, ◌∷◌, IfOk, OnOk};
+ghost use Rattle.std.specs.Prelude.{◌≡◌, ◌≤◌, ◌<◌, ◌^◌, suc, ◌∷◌, length};
 ghost use Rattle.kt_code.specs.Machine.{goes};
-ghost use Rattle.kt_exec.specs.Apart.{Steps, does};
+ghost use Rattle.kt_exec.specs.Apart.{TriesQuiet, does};
 
-use crate::top::Top;
-use crate::went::Went;
-use kt_code::{Instr, Operands, Private};
-use kt_mem::{Trap, Value};
-use std::alloc::AllocError;
+use crate::went::{Halt, Went};
+use kt_code::{Frame, Instr, Private};
+use kt_mem::Stored;
 
 /// Puts a value.
-pub(crate) fn put(value: Value, top: &mut Top, rest: &mut Private) -> Result<Went, AllocError>
-    ensures { Steps (λ x ops. goes x (value ∷ ops)) top.old rest.old top.new rest.new result }
+#[inline]
+pub(crate) fn put(value: Stored, frame: &mut Frame, rest: &mut Private) -> Result<Went, Halt>
+    requires { suc frame.old.at < 2 ^ 32 }
+    ensures { TriesQuiet (λ x ops. goes x (value ∷ ops)) frame.old rest.old frame.new rest.new result }
 {
-    top.next()?;
     rest.operands.push(value)?;
+    frame.next();
     Ok(Went::On)
 }
 
-/// The trap; the value that was taken is put back.
-pub(crate) fn give_back(
-    value: Value,
-    trap: Trap,
-    operands: &mut Operands,
-) -> Result<Went, AllocError>
-    ensures operands { OnOk result (operands.new ≡ value ∷ operands.old) }
-    ensures trap { IfOk result (λ went. went ≡ Went.Trap trap) }
-{
-    operands.push(value)?;
-    Ok(Went::Trap(trap))
-}
-
 /// Takes a value.
-pub(crate) fn discard(top: &mut Top, rest: &mut Private) -> Result<Went, AllocError>
-    ensures { Steps (does Instr.Discard) top.old rest.old top.new rest.new result }
+#[inline]
+pub(crate) fn discard(frame: &mut Frame, rest: &mut Private) -> Result<Went, Halt>
+    requires operands { 1 ≤ length rest.old.operands }
+    requires room { suc frame.old.at < 2 ^ 32 }
+    ensures { TriesQuiet (does Instr.Discard) frame.old rest.old frame.new rest.new result }
 {
-    let Some(_) = rest.operands.pop() else {
-        return Err(AllocError);
-    };
-    top.next()?;
+    rest.operands.drop_first();
+    frame.next();
     Ok(Went::On)
 }
 
 /// Puts the topmost value once more.
-pub(crate) fn duplicate(top: &mut Top, rest: &mut Private) -> Result<Went, AllocError>
-    ensures { Steps (does Instr.Duplicate) top.old rest.old top.new rest.new result }
+#[inline]
+pub(crate) fn duplicate(frame: &mut Frame, rest: &mut Private) -> Result<Went, Halt>
+    requires operands { 1 ≤ length rest.old.operands }
+    requires room { suc frame.old.at < 2 ^ 32 }
+    ensures { TriesQuiet (does Instr.Duplicate) frame.old rest.old frame.new rest.new result }
 {
-    let Some(value) = rest.operands.pop() else {
-        return Err(AllocError);
-    };
-    rest.operands.push(value)?;
-    put(value, top, rest)
+    let value = rest.operands.first();
+    put(value, frame, rest)
 }

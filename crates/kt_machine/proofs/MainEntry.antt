@@ -37,6 +37,26 @@ module _ (p : Pair) (h : IsProgram p.program) (does : (n : ℕ) → DoesVersion 
       subst (λ (o : Option (ℕ × Function)). Fits p.code (entry_of v mode p.code o)) (sym (main-is p.program h))
       (at-place (slice_get p.code.entries h.main.0) refl)
 
+-- each version has a `main`
+pub main-there : (p : Program) → IsProgram p → main_of p ≡ None → ⊥
+main-there p h e = none-some (h.main.0, h.main.1) (sym e ∙ main-is p h)
+  where
+    none-some : (x : ℕ × Function) → None ≡ Some x → ⊥
+    none-some x e = cc
+
+-- and code of it has the entry
+pub main-entry : (p : Pair) → IsProgram p.program → ((n : ℕ) → DoesVersion (numbered p.program n) p.code) → (v g : ℕ) (f : Function) →
+    main_of p.program ≡ Some (g, f) → slice_get p.code.entries g ≡ None → ⊥
+main-entry p h does v g f found e =
+    let same : g ≡ h.main.0 = same-first g h.main.0 f h.main.1 (sym found ∙ main-is p.program h) in
+    none-some _ (sym (subst (λ g. slice_get p.code.entries g ≡ None) same e) ∙ (does v h.main.0 h.main.1 h.main.2).entry_is)
+  where
+    same-first : (g k : ℕ) (f e : Function) → Some (g, f) ≡ Some (k, e) → g ≡ k
+    same-first g k f e h = cc
+
+    none-some : (x : ℕ) → None ≡ Some x → ⊥
+    none-some x e = cc
+
 -- the state at the entry, by what was found
 pub entry-is : (v : ℕ) (mode : Mode) (c : Code) (o : Option (ℕ × Function)) (g : ℕ) (f : Function) (at : Option ℕ) →
     o ≡ Some (g, f) → slice_get c.entries g ≡ at → entry_of v mode c o ≡ entry_at v mode g f at

@@ -9,9 +9,9 @@ ghost use Rattle.kt_pair.specs.VersionActs.{entry_state};
 ghost use Rattle.kt_world.specs.Turn.{main_of, restart_in};
 ghost use Rattle.kt_machine.specs.Engine.{code_entry, no_frames};
 
-use kt_code::{Frame, Frames, Head, Operands, Private};
+use kt_code::{Frame, Frames, Head, Locals, Operands, Private};
 use kt_exec::settle;
-use kt_mem::{KeptLocals, Mode, Value, Values};
+use kt_mem::{KeptLocals, Mode, Stored, Value};
 use kt_pair::{Compiled, compiled_law};
 use kt_tree::{Fun, Version, version_law};
 use std::alloc::{AllocError, Global};
@@ -25,11 +25,11 @@ fn enter_main(alloc: Global, v: u8, compiled: &Compiled, mode: Mode) -> Result<P
     version_law(compiled.version());
     compiled_law(compiled);
     let Some((number, function)) = main_of(compiled.version()) else {
-        return Err(AllocError);
+        unreachable!();
     };
     match compiled.entry(number) {
         Some(at) => entry_state(alloc, v, at, number, function, mode),
-        None => Err(AllocError),
+        None => unreachable!(),
     }
 }
 
@@ -76,12 +76,12 @@ fn entry_state(
     ensures { IfOk result (λ p. p ≡ entry_state v at number (function_of function.now) [] (restart_in mode)) }
 {
     let mut locals = Vec::new(alloc);
-    locals.resize(function.locals.as_slice().len(), Value::Undef)?;
+    locals.resize(function.locals.as_slice().len(), Stored::of(Value::Undef))?;
     let mut state = no_frames(alloc, v, mode);
     state.frames.push(Frame {
         function: number,
         at,
-        locals: Values::from_vec(locals),
+        locals: Locals::from_vec(locals),
     })?;
     Ok(state)
 }

@@ -1,40 +1,40 @@
--- Values as cells keep them.
+-- Values as they are kept, with one tag each.
 use Rattle.std.specs.Prelude.{◌≡◌, refl}
 use Rattle.kt_mem.specs.declared.memory.Name.TheVariants.{Glob, Lit, Heap}
 use Rattle.kt_mem.specs.declared.memory.Value.{Value}
 use Rattle.kt_mem.specs.declared.memory.Value.TheVariants.{Num, Null, Ptr, Free, Held, Undef}
-use Rattle.kt_mem.specs.declared.memory.Stored.{Stored}
-use Rattle.kt_mem.specs.declared.memory.Stored.TheVariants as stored
+use Rattle.kt_mem.specs.declared.stored.Form.{Form}
+use Rattle.kt_mem.specs.declared.stored.Form.TheVariants as form
 
 -- the value that is kept
-abbrev pub value_of : Stored → Value
-value_of (stored.Num z) = Num z
-value_of stored.Null = Null
-value_of (stored.Glob k i) = Ptr (Glob i) k
-value_of (stored.Lit k v i) = Ptr (Lit v i) k
-value_of (stored.Heap k a) = Ptr (Heap a) k
-value_of stored.Free = Free
-value_of (stored.Held w) = Held w
-value_of stored.Undef = Undef
+abbrev pub value_of : Form → Value
+value_of (form.Num z) = Num z
+value_of form.Null = Null
+value_of (form.Glob k i) = Ptr (Glob i) k
+value_of (form.Lit k v i) = Ptr (Lit v i) k
+value_of (form.Heap k a) = Ptr (Heap a) k
+value_of form.Free = Free
+value_of (form.Held w) = Held w
+value_of form.Undef = Undef
 
 -- a value as it is kept
-abbrev pub stored_of : Value → Stored
-stored_of (Num z) = stored.Num z
-stored_of Null = stored.Null
-stored_of (Ptr (Glob i) k) = stored.Glob k i
-stored_of (Ptr (Lit v i) k) = stored.Lit k v i
-stored_of (Ptr (Heap a) k) = stored.Heap k a
-stored_of Free = stored.Free
-stored_of (Held w) = stored.Held w
-stored_of Undef = stored.Undef
+abbrev pub form_of : Value → Form
+form_of (Num z) = form.Num z
+form_of Null = form.Null
+form_of (Ptr (Glob i) k) = form.Glob k i
+form_of (Ptr (Lit v i) k) = form.Lit k v i
+form_of (Ptr (Heap a) k) = form.Heap k a
+form_of Free = form.Free
+form_of (Held w) = form.Held w
+form_of Undef = form.Undef
 
--- each way to keep a value is the way of one value
-pub stored_of-value_of : (s : Stored) → stored_of (value_of s) ≡ s
-stored_of-value_of (stored.Num z) = refl
-stored_of-value_of stored.Null = refl
-stored_of-value_of (stored.Glob k i) = refl
-stored_of-value_of (stored.Lit k v i) = refl
-stored_of-value_of (stored.Heap k a) = refl
-stored_of-value_of stored.Free = refl
-stored_of-value_of (stored.Held w) = refl
-stored_of-value_of stored.Undef = refl
+-- each form is that of one value
+pub form_of-value_of : (s : Form) → form_of (value_of s) ≡ s
+form_of-value_of (form.Num z) = refl
+form_of-value_of form.Null = refl
+form_of-value_of (form.Glob k i) = refl
+form_of-value_of (form.Lit k v i) = refl
+form_of-value_of (form.Heap k a) = refl
+form_of-value_of form.Free = refl
+form_of-value_of (form.Held w) = refl
+form_of-value_of form.Undef = refl

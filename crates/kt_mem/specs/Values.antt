@@ -1,5 +1,5 @@
 -- Tests on names, types and numbers, and what reading a value gives: shared by arithmetic, comparisons and memory.
-use Rattle.std.specs.Prelude.{ℤ, pos, negsuc, Bool, true, false, ◌&&◌, ◌==◌, Result, Ok, Err, if◌then◌else◌}
+use Rattle.std.specs.Prelude.{ℤ, pos, negsuc, Bool, true, false, ◌&&◌, ◌==◌, Option, None, Some, Result, Ok, Err, if◌then◌else◌}
 use Rattle.kt_types.specs.declared.kinds.Ty.{Ty}
 use Rattle.kt_types.specs.declared.kinds.Ty.TheVariants as ty
 use Rattle.kt_mem.specs.declared.memory.Name.{Name}
@@ -37,6 +37,11 @@ int_eq _ _ = false
 abbrev pub defined : Value → Result Value Trap
 defined Undef = Err trap.Uninit
 defined v = Ok v
+
+-- the number, where the value is one
+abbrev pub number_of : Value → Option ℤ
+number_of (Num z) = Some z
+number_of v = None
 
 -- the number that a test gives: 1 or 0 (6.5.8, 6.5.9)
 abbrev pub truth : Bool → Value

@@ -9,6 +9,7 @@ use crate::steps::Trap;
 
 /// `a == b`: 1 or 0, of two numbers, or of two pointers or nulls. Pointers are equal where names and
 /// offsets are, whether or not the object lives. Anything else is `uninit` (ISO/IEC 9899:2011, 6.5.9).
+#[inline]
 pub fn equal(a: Value, b: Value) -> Result<Value, Trap>
     ensures exact { result ≡ equal_value a b }
 {
@@ -16,6 +17,7 @@ pub fn equal(a: Value, b: Value) -> Result<Value, Trap>
 }
 
 /// `a != b`: 1 or 0, as `equal` (ISO/IEC 9899:2011, 6.5.9).
+#[inline]
 pub fn not_equal(a: Value, b: Value) -> Result<Value, Trap>
     ensures exact { result ≡ not_equal_value a b }
 {
@@ -24,6 +26,7 @@ pub fn not_equal(a: Value, b: Value) -> Result<Value, Trap>
 
 /// `a < b`: 1 or 0, of two numbers, or of two pointers: `null` where one is null, else `bounds` where
 /// they point into different objects. Anything else is `uninit` (ISO/IEC 9899:2011, 6.5.8).
+#[inline]
 pub fn less(a: Value, b: Value) -> Result<Value, Trap>
     ensures exact { result ≡ less_value a b }
 {
@@ -32,6 +35,7 @@ pub fn less(a: Value, b: Value) -> Result<Value, Trap>
 }
 
 /// `a > b`: 1 or 0, as `less` (ISO/IEC 9899:2011, 6.5.8).
+#[inline]
 pub fn greater(a: Value, b: Value) -> Result<Value, Trap>
     ensures exact { result ≡ greater_value a b }
 {
@@ -40,6 +44,7 @@ pub fn greater(a: Value, b: Value) -> Result<Value, Trap>
 }
 
 /// `a <= b`: 1 or 0, as `less` (ISO/IEC 9899:2011, 6.5.8).
+#[inline]
 pub fn less_equal(a: Value, b: Value) -> Result<Value, Trap>
     ensures exact { result ≡ less_equal_value a b }
 {
@@ -48,6 +53,7 @@ pub fn less_equal(a: Value, b: Value) -> Result<Value, Trap>
 }
 
 /// `a >= b`: 1 or 0, as `less` (ISO/IEC 9899:2011, 6.5.8).
+#[inline]
 pub fn greater_equal(a: Value, b: Value) -> Result<Value, Trap>
     ensures exact { result ≡ greater_equal_value a b }
 {
@@ -57,6 +63,7 @@ pub fn greater_equal(a: Value, b: Value) -> Result<Value, Trap>
 
 /// Whether a condition fails: a number is 0, or a pointer is null. Anything else is `uninit`
 /// (ISO/IEC 9899:2011, 6.8.4.1).
+#[inline]
 pub fn is_zero(a: Value) -> Result<bool, Trap>
     ensures exact { result ≡ zero_test a }
 {
@@ -69,6 +76,7 @@ pub fn is_zero(a: Value) -> Result<bool, Trap>
 }
 
 /// `!a`: 1 where `is_zero`, else 0 (ISO/IEC 9899:2011, 6.5.3.3).
+#[inline]
 pub fn not(a: Value) -> Result<Value, Trap>
     ensures exact { result ≡ not_value a }
 {
@@ -76,6 +84,7 @@ pub fn not(a: Value) -> Result<Value, Trap>
 }
 
 /// The value that a test gives: 1 or 0.
+#[inline]
 pub fn truth(test: bool) -> Value
     ensures exact { result ≡ truth test }
 {
@@ -83,6 +92,7 @@ pub fn truth(test: bool) -> Value
 }
 
 /// What is read: the value, or `uninit` where it is undefined.
+#[inline]
 pub fn defined(a: Value) -> Result<Value, Trap>
     ensures exact { result ≡ defined a }
 {
@@ -93,6 +103,7 @@ pub fn defined(a: Value) -> Result<Value, Trap>
 }
 
 /// Whether two values are equal.
+#[inline]
 fn are_equal(a: Value, b: Value) -> Result<bool, Trap>
     ensures { result ≡ equality a b }
 {
@@ -106,6 +117,7 @@ fn are_equal(a: Value, b: Value) -> Result<bool, Trap>
 }
 
 /// The numbers that an order compares: the values, or the offsets of pointers into one object.
+#[inline]
 fn ordered(a: Value, b: Value) -> Result<(i64, i64), Trap>
     ensures { result ≡ compared_numbers a b }
 {

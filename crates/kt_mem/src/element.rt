@@ -9,6 +9,7 @@ use crate::steps::Trap;
 /// `p + i`, where an element has `width` cells: `null` where `p` is null, else `bounds` where the
 /// offset would leave 0 to 65,536. Anything but a pointer or null and a number is `uninit` (ISO/IEC
 /// 9899:2011, 6.5.6).
+#[inline]
 pub fn add_elements(p: Value, i: Value, width: u32) -> Result<Value, Trap>
     ensures exact { result ≡ element_after p i width }
 {
@@ -19,6 +20,7 @@ pub fn add_elements(p: Value, i: Value, width: u32) -> Result<Value, Trap>
 }
 
 /// `p - i`, as `add_elements` (ISO/IEC 9899:2011, 6.5.6).
+#[inline]
 pub fn sub_elements(p: Value, i: Value, width: u32) -> Result<Value, Trap>
     ensures exact { result ≡ element_before p i width }
 {
@@ -31,6 +33,7 @@ pub fn sub_elements(p: Value, i: Value, width: u32) -> Result<Value, Trap>
 /// `p - q`, where an element has `width` cells: the number of elements from `q` to `p`; `null` where
 /// one is null, else `bounds` where they point into different objects or are no whole elements apart.
 /// Anything else is `uninit` (ISO/IEC 9899:2011, 6.5.6).
+#[inline]
 pub fn elements_between(p: Value, q: Value, width: u32) -> Result<Value, Trap>
     requires { 0 < width }
     ensures exact { result ≡ elements_between p q width }
@@ -40,6 +43,7 @@ pub fn elements_between(p: Value, q: Value, width: u32) -> Result<Value, Trap>
 }
 
 /// The cells of a number of elements.
+#[inline]
 fn cells(count: i64, width: u32) -> i128
     ensures value { result ≡ count *ℤ pos width }
     ensures bound { unsigned_abs result < 2 ^ 96 }
@@ -48,6 +52,7 @@ fn cells(count: i64, width: u32) -> i128
 }
 
 /// A number of cells as whole elements, or `bounds`.
+#[inline]
 fn whole_elements(cells: i64, width: u32) -> Result<Value, Trap>
     requires { 0 < width }
     ensures { result ≡ whole_elements width cells }

@@ -9,6 +9,7 @@ mod element;
 mod laws;
 mod memory;
 mod steps;
+mod stored;
 mod thread;
 
 pub use arithmetic::{add, div, mul, narrow, rem, sub};
@@ -22,4 +23,5 @@ pub use laws::{
 };
 pub use memory::{Cell, Cells, Name, Value, Values};
 pub use steps::{Act, Piece, Pieces, Reply, Trap};
+pub use stored::Stored;
 pub use thread::{KeptLocal, KeptLocals, Mode};

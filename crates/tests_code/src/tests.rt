@@ -1,8 +1,13 @@
 //! Tests of the types, with ample memory.
-use kt_code::{Code, Entries, Frame, Frames, Instr, Instrs, Operands, Private};
-use kt_mem::{KeptLocal, KeptLocals, Mode, Value, Values};
+use kt_code::{Code, Entries, Frame, Frames, Instr, Instrs, Locals, Operands, Private};
+use kt_mem::{KeptLocal, KeptLocals, Mode, Stored, Value};
 use kt_types::Points;
 use std::test::Fail;
+
+/// A number, as it is kept.
+fn num(n: i64) -> Stored {
+    Stored::of(Value::Num(n))
+}
 
 #[test]
 fn private_states_are_copied(rt: HostRuntime) -> Result<(), Fail> {
@@ -12,12 +17,12 @@ fn private_states_are_copied(rt: HostRuntime) -> Result<(), Fail> {
         frames.push(Frame {
             function,
             at: 10 * function,
-            locals: Values::from_vec(vec![in alloc; Value::Undef, Value::Num(5)]?),
+            locals: Locals::from_vec(vec![in alloc; Stored::of(Value::Undef), num(5)]?),
         })?;
     }
     let mut operands = Operands::new(alloc);
     for n in 0..10 {
-        operands.push(Value::Num(n))?;
+        operands.push(num(n))?;
     }
     let kept = vec![in alloc;
         KeptLocal {
@@ -46,19 +51,51 @@ fn private_states_are_copied(rt: HostRuntime) -> Result<(), Fail> {
     let at = copy.frames.pop().map(|frame| frame.at);
     let function = copy.frames.first().map(|frame| frame.function);
     assert_eq!(rt; (at, function), (Some(20), Some(1)));
-    let third = copy.operands.get(2);
-    let topmost = copy.operands.pop();
-    copy.operands.discard(7);
+    let third = copy.operands.get(2).map(|v| v.value());
+    copy.operands.discard(8);
     assert_eq!(rt;
-        (third, topmost, copy.operands.len(), copy.operands.get(2)),
-        (Some(Value::Num(7)), Some(Value::Num(9)), 2, None)
+        (third, copy.operands.len(), copy.operands.get(2).is_some()),
+        (Some(Value::Num(7)), 2, false)
     );
+    let count = private.operands.len();
+    assert_eq!(rt; count, 10);
     let last = private.operands.last(2);
     let is_last = last
         .iter()
         .map(|v| v.value())
         .eq([Value::Num(8), Value::Num(9)]);
-    assert_eq!(rt; (private.operands.len(), is_last), (10, true));
+    assert!(rt; is_last);
+    Ok(())
+}
+
+#[test]
+fn operands_change_at_the_top(rt: HostRuntime) -> Result<(), Fail> {
+    let mut operands = Operands::new(rt.alloc());
+    for n in 0..4 {
+        operands.push(num(n))?;
+    }
+    let count = operands.len();
+    assert_eq!(rt; count, 4);
+    let (a, b) = operands.first_two();
+    assert_eq!(rt; (a.number(), b.number()), (Some(2), Some(3)));
+    operands.replace_two(num(5));
+    operands.replace(num(6));
+    operands.drop_first();
+    assert_eq!(rt; (operands.first().number(), operands.len()), (Some(1), 2));
+    Ok(())
+}
+
+#[test]
+fn locals_are_set(rt: HostRuntime) -> Result<(), Fail> {
+    let mut locals = Locals::from_vec(vec![in rt.alloc(); num(1), num(2)]?);
+    locals.set(1, num(7));
+    locals.set(2, num(8));
+    let second = locals.get(1).map(|v| v.value());
+    assert_eq!(rt;
+        (second, locals.get(2).is_some(), locals.as_slice().len()),
+        (Some(Value::Num(7)), false, 2)
+    );
+    assert_eq!(rt; locals.into_vec().len(), 2);
     Ok(())
 }
 

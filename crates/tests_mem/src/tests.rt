@@ -1,6 +1,6 @@
 //! Edges of each operation, with values by hand (ISO/IEC 9899:2011, 6.5.5 to 6.5.9).
 use kt_mem::{
-    Cell, Cells, KeptLocal, KeptLocals, Name, Piece, Pieces, Trap, Value, Values, add,
+    Cell, Cells, KeptLocal, KeptLocals, Name, Piece, Pieces, Stored, Trap, Value, Values, add,
     add_elements, answers_law, defined, div, division_law, elements_between, equal, greater,
     greater_equal, heap_number_law, is_zero, less, less_equal, live_cells_law, mul, mutex_law,
     narrow, not, not_equal, release_law, rem, shape_law, store_law, sub, sub_elements, truth,
@@ -295,6 +295,11 @@ fn cells_keep_values(rt: HostRuntime) {
     ] {
         let cell = Cell::new(Ty::Ptr(5), value);
         assert!(rt; cell.ty() == Ty::Ptr(5) && cell.value() == value);
+        let kept = Stored::of(value);
+        assert!(rt; kept.value() == value);
+        assert!(rt; kept.number().is_some() == matches!(value, Value::Num(_)));
+        assert!(rt; kept.defined().is_ok() == defined(value).is_ok());
+        assert!(rt; kept.is_zero().ok() == is_zero(value).ok());
     }
 }
 

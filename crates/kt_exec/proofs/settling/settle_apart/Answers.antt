@@ -1,12 +1,14 @@
 use Rattle.std.proofs.Common.{refl}
-use Rattle.kt_code.specs.Settling.{settle}
 use Rattle.kt_exec.specs.Apart.{whole}
+use Rattle.kt_exec.proofs.Ready.{fits-each}
 use Rattle.kt_exec.proofs.Settled.{fits-stands, fits-ends}
 use Rattle.kt_exec.proofs.settling.settle_apart.Goals as goal
 
-pub come_to-requires : goal.come_to-requires
-come_to-requires c =
-    let code = c.args.code.now in
-    let p = whole c.args.top.now c.args.rest.now in
-    let q = whole c.run.new.top c.run.new.rest in
-    fits-ends code q q refl (fits-stands code p q c.in_ok-trap.ensures.stands c.requires)
+pub run-requires : goal.run-requires
+run-requires c = fits-each c.args.code.now (whole c.args.frame.now c.args.rest.now) c.requires
+
+pub come_to-requires-clause-ends : goal.come_to-requires-clause-ends
+come_to-requires-clause-ends c =
+    let p = whole c.args.frame.now c.args.rest.now in
+    let q = whole c.run.new.frame c.run.new.rest in
+    fits-ends c.args.code.now q q refl (fits-stands c.args.code.now p q c.in-Ok.ensures.0 c.requires)

@@ -4,7 +4,7 @@ use Rattle.kt_tree.specs.Version.{Program, IsProgram}
 use Rattle.kt_pair.specs.VersionActs.{entry_state}
 use Rattle.kt_world.specs.Turn.{main_of, restart_in}
 use Rattle.kt_machine.specs.Engine.{code_entry, entry_of}
-use Rattle.kt_machine.proofs.MainEntry.{entry-fits, entry-is, ok-fits, ok-is}
+use Rattle.kt_machine.proofs.MainEntry.{entry-fits, entry-is, main-entry, main-there, ok-fits, ok-is}
 use Rattle.kt_machine.proofs.entry.enter_main.Goals as goal
 
 pub returns-in-Some-entry-clause-entry : goal.returns-in-Some-entry-clause-entry
@@ -23,3 +23,18 @@ returns-in-Some-entry-clause-fits c =
     let program = subst (λ (q : Program). IsProgram q) c.version.ensures c.version_law.ensures.program in
     ok-fits p.code (code_entry c.args.v c.args.mode (Some p)) c.entry_state.result (returns-in-Some-entry-clause-entry c)
     (entry-fits p program c.compiled_law.ensures.acts c.compiled_law.ensures.fits c.args.v c.args.mode c.requires.mode)
+
+pub unreachable-requires : goal.unreachable-requires
+unreachable-requires c =
+    let p = c.args.compiled.now in
+    let program = subst (λ (q : Program). IsProgram q) c.version.ensures c.version_law.ensures.program in
+    let told = rw c.in_default.is at c.main_of.ensures in
+    main-there p.program program (sym (told ∙ ap main_of c.version-2.ensures))
+
+pub unreachable-in-None-requires : goal.unreachable-in-None-requires
+unreachable-in-None-requires c =
+    let p = c.args.compiled.now in
+    let f = function_of c.in-Some.function.now in
+    let program = subst (λ (q : Program). IsProgram q) c.version.ensures c.version_law.ensures.program in
+    let found : main_of p.program ≡ Some (c.in-Some.number, f) = sym (c.in-Some.ensures ∙ ap main_of c.version-2.ensures) in
+    main-entry p program c.compiled_law.ensures.acts c.args.v c.in-Some.number f found (sym c.in-None.ensures)

@@ -1,0 +1,12 @@
+use Rattle.std.proofs.Common.{◌≡◌, ◌-◌, suc, length, arith}
+use Rattle.std.proofs.lemmas.List.{length-reverse}
+use Rattle.kt_code.proofs.Turned.{reverse-set}
+use Rattle.kt_code.proofs.operands.Operands.replace.Goals as goal
+
+pub returns : goal.returns
+returns c =
+    let items = c.self.inside.items.items in
+    let n : length c.args.self.now ≡ length items = rw (← c.self.view_is) (length-reverse items) in
+    let all = c.self.inside.items.ok.0 in
+    let h : suc (c.len-last.result - 1) ≡ length items = omega arith in
+    rw (← c.self.view_is) (reverse-set items (c.len-last.result - 1) c.args.value h)
