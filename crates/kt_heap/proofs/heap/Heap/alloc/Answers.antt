@@ -15,7 +15,7 @@ add-requires-clause-room c =
 pub add-requires-clause-unpaired : goal.add-requires-clause-unpaired
 unfolding memory
 add-requires-clause-unpaired c =
-    rw c.self.view_is (next_unpaired (state_of c.self.inside) c.args.self.now c.self.view_is c.self.invariant.0)
+    rw (← c.self.view_is) (next_unpaired (state_of c.self.inside) c.args.self.now c.self.view_is c.self.invariant.0)
 
 pub fresh_cells-requires : goal.fresh_cells-requires
 fresh_cells-requires c =

@@ -14,5 +14,5 @@ returns-in-None-clause-own c =
 pub returns-in-Some-clause-own : goal.returns-in-Some-clause-own
 returns-in-Some-clause-own c =
     let h : Keyed = record { slots = c.self.inside.slab.slots; keys = c.self.inside.keys } in
-    let some : entry_at h c.args.key ≡ option_copied c.get-2.result = ap (entry_in h.slots) (sym c.get.ensures ∙ c.in-Some.is) ∙ sym c.get-2.ensures in
+    let some : entry_at h c.args.key ≡ option_copied c.get-in-Some.result = ap (entry_in h.slots) (sym c.get.ensures ∙ c.in-Some.is) ∙ sym c.get-in-Some.ensures in
     rw (← c.self.view_is) (λ a. subst (λ (o : Option Entry). (option_map (λ (e : Entry). e.address) o ≡ Some a) ↔ IsObjectAt h c.args.key a) some (at_key_exact h c.args.key c.self.invariant a))
