@@ -1,8 +1,7 @@
 -- What a heap keeps after a change of its heap objects.
-use Rattle.std.proofs.Common.{◌≡◌, ◌≢◌, ◌⊎◌, ◌==◌, ℕ, ◌+◌, ◌<◌, ◌≤◌, cond, List, [], ◌∷◌, ◌++◌, length, Option, None, Some, IsSome, refl, sym, ◌∙◌, ap, subst, arith, inl, inr}
+use Rattle.std.proofs.Common.{◌≡◌, ◌≢◌, ◌⊎◌, ℕ, ◌+◌, ◌<◌, ◌≤◌, cond, List, [], ◌∷◌, ◌++◌, length, Option, None, Some, IsSome, refl, sym, ◌∙◌, ap, subst, arith, inl, inr}
 use Rattle.std.proofs.lemmas.List.{length_push}
 use Rattle.std.proofs.lemmas.List.Elements.{Contains-append_left, Contains-push, Contains-push_cases}
-use Rattle.std.specs.List.{Contains}
 use Rattle.std.specs.Option.{option_map}
 use Rattle.kt_mem.specs.declared.memory.Name.TheVariants.{Heap}
 use Rattle.kt_mem.specs.Memory.{Object, Cell}
@@ -10,7 +9,7 @@ use Rattle.kt_heap.specs.declared.object.Obj.{Obj}
 use Rattle.kt_heap.specs.Objects.{shown, obj_with}
 use Rattle.kt_heap.specs.Keys.{key_of, generation_of, place_at, AreAllUsed, IsKeyTaken}
 use Rattle.kt_heap.specs.Keyed.{Keyed, obj_at, IsPut}
-use Rattle.kt_heap.specs.Heap.{State, memory, given, Paired, IsNew, IsPairing, number_at}
+use Rattle.kt_heap.specs.Heap.{State, memory, given, Paired, IsNew}
 use Rattle.kt_heap.specs.Inside.{IsFilled, HasDead, IsHeap}
 use Rattle.kt_heap.proofs.Places.{by_test}
 

@@ -1,8 +1,6 @@
 -- What stands at a key, and the objects by address.
-use Rattle.std.proofs.Common.{◌≡◌, ◌↔◌, ◌==◌, ℕ, zero, suc, ◌<◌, Bool, true, false, cond, List, [], ◌∷◌, length, Option, None, Some, IsSome, refl, sym, ◌∙◌, ap, subst, arith}
-use Rattle.std.specs.Prelude.{slice_get, slice_index_or}
-use Rattle.std.specs.Option.{option_map, option_flatten}
-use Rattle.kt_heap.specs.declared.object.Obj.{Obj}
+use Rattle.std.proofs.Common.{◌≡◌, ◌↔◌, ℕ, zero, suc, ◌<◌, cond, List, [], ◌∷◌, length, Option, None, Some, IsSome, refl, sym, ◌∙◌, ap, subst, arith}
+use Rattle.std.specs.Option.{option_map}
 use Rattle.kt_heap.specs.declared.keyed.Entry.{Entry}
 use Rattle.kt_heap.specs.Objects.{shown}
 use Rattle.kt_heap.specs.Keys.{place_at, key_of, AreAllUsed}

@@ -1,5 +1,5 @@
 -- A store, and what is under the name after it.
-use Rattle.std.proofs.Common.{◌≡◌, ℕ, ◌==◌, cond, List, Option, None, Some, Ok, IsOk, refl, sym, ◌∙◌, ap}
+use Rattle.std.proofs.Common.{◌≡◌, ℕ, ◌==◌, cond, List, Option, Ok, IsOk, refl, sym, ◌∙◌, ap}
 use Rattle.std.specs.Option.{option_map}
 use Rattle.kt_mem.specs.declared.memory.Name.{Name}
 use Rattle.kt_mem.specs.declared.memory.Name.TheVariants.{Glob, Heap}

@@ -1,11 +1,11 @@
 -- The key and the address that an object more takes.
-use Rattle.std.proofs.Common.{◌≡◌, ◌⊎◌, ℕ, ◌+◌, ◌*◌, ◌<◌, List, length, Option, None, Some, IsSome, refl, sym, ◌∙◌, ap, subst, arith, inl, inr}
+use Rattle.std.proofs.Common.{◌≡◌, ◌⊎◌, ℕ, length, Option, None, Some, IsSome, refl, sym, ◌∙◌, ap, subst, arith, inl, inr}
 use Rattle.std.specs.Option.{option_map}
 use Rattle.kt_mem.specs.declared.memory.Name.TheVariants.{Heap}
 use Rattle.kt_mem.specs.Memory.{Object}
 use Rattle.kt_heap.specs.Keys.{key_of, generation_of, place_at, AreAllUsed, IsKeyTaken}
 use Rattle.kt_heap.specs.Keyed.{Keyed, HaveObjects}
-use Rattle.kt_heap.specs.Heap.{State, memory, given, key_count, Paired, AreAllLive, TakesKey, place_address, number_at}
+use Rattle.kt_heap.specs.Heap.{State, memory, given, Paired, AreAllLive, TakesKey, place_address, number_at}
 use Rattle.kt_heap.specs.Inside.{IsFilled, HasDead, IsHeap}
 use Rattle.kt_heap.proofs.Addresses.{address_is}
 

@@ -117,7 +117,7 @@ abbrev pub AllocsByNumber : Type 0
 AllocsByNumber =
     (pairs : Pairs) (m : Memory) (a place count : ℕ) (types : List Ty) (zeros : Bool) → IsPairing pairs m → HoldsGiven pairs m → IsNew pairs a
     → by_number (pairs ++ (a, m.next) ∷ []) (made m a (fresh_object m.next place types count zeros))
-        ≡ made (by_number pairs m) m.next (fresh_object m.next place types count zeros)
+    ≡ made (by_number pairs m) m.next (fresh_object m.next place types count zeros)
 
 -- by heap number each live heap object carries its own number
 abbrev pub CarriesNumber : Type 0

@@ -1,5 +1,5 @@
 -- What the fields of a `Heap` keep.
-use Rattle.std.specs.Prelude.{◌≡◌, ◌⊎◌, ◌↔◌, ◌==◌, ℕ, ◌<◌, ◌≤◌, List, length, Option, None, Some}
+use Rattle.std.specs.Prelude.{◌≡◌, ◌⊎◌, ◌↔◌, ℕ, ◌<◌, ◌≤◌, length, Option, None, Some}
 use Rattle.kt_mem.specs.declared.memory.Name.TheVariants.{Heap}
 use Rattle.kt_heap.specs.Keys.{generation_of, AreAllUsed}
 use Rattle.kt_heap.specs.Heap.{State, memory, Paired, IsPairing, number_at}

@@ -1,6 +1,6 @@
 -- Addresses, and the keys in them. Each live heap object has a key of its own: for each key from 0 on there is the place
 -- of its object in the slab, none where the key is free.
-use Rattle.std.specs.Prelude.{◌≡◌, ◌⊎◌, ℕ, ◌+◌, ◌*◌, ◌/◌, ◌%◌, ◌<◌, ◌==◌, List, length, Option, None, IsSome, slice_get, if◌then◌else◌}
+use Rattle.std.specs.Prelude.{◌≡◌, ◌⊎◌, ℕ, ◌+◌, ◌*◌, ◌/◌, ◌%◌, ◌<◌, ◌==◌, List, length, Option, IsSome, slice_get, if◌then◌else◌}
 use Rattle.std.specs.Option.{option_flatten}
 
 -- the address of a key in a generation, and the key and the generation of an address

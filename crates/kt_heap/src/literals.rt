@@ -3,8 +3,8 @@ ghost use Rattle.std.specs.Prelude.{◌≡◌, ◌==◌, ◌&&◌, ◌<◌, ℕ,
 ghost use Rattle.std.specs.Option.{option_copied};
 ghost use Rattle.kt_heap.specs.Objects.{held_by};
 
-use crate::object::Obj;
 use crate::numbered::Numbered;
+use crate::object::Obj;
 use std::alloc::{AllocError, Global};
 use std::marker::Model;
 

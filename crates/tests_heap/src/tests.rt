@@ -145,7 +145,10 @@ fn allocations(rt: HostRuntime) -> Result<(), Fail> {
 fn cells_run_out(rt: HostRuntime) -> Result<(), Fail> {
     let mut heap = Heap::new(rt.alloc(), 100);
     for n in 0..64 {
-        assert_eq!(rt; allocate(&mut heap, &[Ty::Char], 65_536, false), Ok(address(n, n)));
+        assert_eq!(rt;
+            allocate(&mut heap, &[Ty::Char], 65_536, false),
+            Ok(address(n, n))
+        );
     }
     for (count, want) in [(1, AllocFault::Heap), (0, AllocFault::Size)] {
         assert_eq!(rt; allocate(&mut heap, &[Ty::Char], count, false), Err(want));
@@ -155,7 +158,11 @@ fn cells_run_out(rt: HostRuntime) -> Result<(), Fail> {
     assert_eq!(rt; (freed, made), (Ok(()), Ok(address(30, 64))));
     for (p, ty, want) in [
         (heap_at(address(30, 64), 65_535), Ty::Long, Ok(num(0))),
-        (heap_at(address(30, 64), 65_536), Ty::Long, Err(Trap::Bounds)),
+        (
+            heap_at(address(30, 64), 65_536),
+            Ty::Long,
+            Err(Trap::Bounds),
+        ),
         (heap_at(address(30, 30), 0), Ty::Char, Err(Trap::Dead)),
     ] {
         assert_eq!(rt; heap.load(p, ty), want, "{p:?} at {ty:?}");
@@ -232,7 +239,10 @@ fn an_object_is_placed(rt: HostRuntime) -> Result<(), Fail> {
     assert_eq!(rt; heap.load(heap_at(a, 0), Ty::Long), Ok(num(3)));
     assert_eq!(rt; (heap.next(), heap.given()), (10, 1));
     let made = allocate(&mut heap, &[Ty::Int], 1, false);
-    assert_eq!(rt; (made, heap.object_of(10)), (Ok(address(1, 1)), Some(address(1, 1))));
+    assert_eq!(rt;
+        (made, heap.object_of(10)),
+        (Ok(address(1, 1)), Some(address(1, 1)))
+    );
     let freed = heap.free(heap_at(a, 0));
     let loaded = heap.load(heap_at(a, 0), Ty::Long);
     assert_eq!(rt; (freed, loaded), (Ok(()), Err(Trap::Dead)));
@@ -243,21 +253,22 @@ fn an_object_is_placed(rt: HostRuntime) -> Result<(), Fail> {
 fn a_key_is_used_again(rt: HostRuntime) -> Result<(), Fail> {
     let mut heap = Heap::new(rt.alloc(), 0);
     for n in 0..3 {
-        assert_eq!(rt; allocate(&mut heap, &[Ty::Int], 1, false), Ok(address(n, n)));
+        assert_eq!(rt;
+            allocate(&mut heap, &[Ty::Int], 1, false),
+            Ok(address(n, n))
+        );
     }
     let freed = heap.free(heap_at(address(1, 1), 0));
     assert_eq!(rt; (freed, heap.slots()), (Ok(()), 3));
-    for (key, want) in [
-        (0, Some(0)),
-        (1, None),
-        (2, Some(address(2, 2))),
-        (3, None),
-    ] {
+    for (key, want) in [(0, Some(0)), (1, None), (2, Some(address(2, 2))), (3, None)] {
         assert_eq!(rt; heap.at_key(key), want, "{key}");
     }
     let made = allocate(&mut heap, &[Ty::Int], 1, false);
     assert_eq!(rt; (made, heap.slots()), (Ok(address(1, 3)), 3));
-    assert_eq!(rt; (heap.at_key(1), heap.object_of(3)), (Some(address(1, 3)), Some(address(1, 3))));
+    assert_eq!(rt;
+        (heap.at_key(1), heap.object_of(3)),
+        (Some(address(1, 3)), Some(address(1, 3)))
+    );
     Ok(())
 }
 
@@ -270,6 +281,9 @@ fn released_places_are_used_again(rt: HostRuntime) -> Result<(), Fail> {
         let freed = heap.free(heap_at(a, 0));
         assert_eq!(rt; (made, freed), (Ok(a), Ok(())));
     }
-    assert_eq!(rt; (heap.slots(), heap.given(), heap.next()), (1, 20_000, 20_000));
+    assert_eq!(rt;
+        (heap.slots(), heap.given(), heap.next()),
+        (1, 20_000, 20_000)
+    );
     Ok(())
 }

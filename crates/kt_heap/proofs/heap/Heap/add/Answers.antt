@@ -1,12 +1,11 @@
-use Rattle.std.proofs.Common.{◌≡◌, ◌==◌, ℕ, ◌+◌, ◌<◌, ◌≤◌, cond, List, [], ◌∷◌, ◌++◌, length, Option, None, Some, refl, sym, ◌∙◌, ap, subst, arith}
+use Rattle.std.proofs.Common.{◌≡◌, ◌==◌, ℕ, ◌+◌, ◌≤◌, cond, List, [], ◌∷◌, ◌++◌, length, Some, sym, ◌∙◌, ap, subst, arith}
 use Rattle.std.specs.HashMap.{get}
-use Rattle.std.specs.Option.{option_map}
 use Rattle.kt_mem.specs.declared.memory.Name.TheVariants.{Heap}
 use Rattle.kt_mem.specs.Memory.{Memory, Cell, put}
 use Rattle.kt_heap.specs.Objects.{shown}
 use Rattle.kt_heap.specs.Keys.{generation_of}
 use Rattle.kt_heap.specs.Keyed.{Keyed}
-use Rattle.kt_heap.specs.Heap.{State, memory, given, key_count, Paired}
+use Rattle.kt_heap.specs.Heap.{memory, given, key_count, Paired}
 use Rattle.kt_heap.specs.Inside.{state_of, IsHeap, HasNumbers}
 use Rattle.kt_heap.proofs.Acts.{ok_then}
 use Rattle.kt_heap.proofs.Look.{memory_put}

@@ -1,5 +1,5 @@
-use Rattle.std.proofs.Common.{length, ◌∙◌, ap, arith}
-use Rattle.kt_heap.specs.Heap.{memory}
+use Rattle.std.proofs.Common.{ℕ, length, sym, ◌∙◌, ap, subst, arith}
+use Rattle.kt_heap.specs.Heap.{State, memory, given, Paired}
 use Rattle.kt_heap.specs.Inside.{state_of}
 use Rattle.kt_heap.proofs.Acts.{no_fault, no_size_fault, length-fresh}
 use Rattle.kt_heap.proofs.Taking.{next_unpaired}
@@ -15,7 +15,7 @@ add-requires-clause-room c =
 pub add-requires-clause-unpaired : goal.add-requires-clause-unpaired
 unfolding memory
 add-requires-clause-unpaired c =
-    rw (← c.self.view_is) (next_unpaired (state_of c.self.inside) c.args.self.now c.self.view_is c.self.invariant.0)
+    subst (λ (n : ℕ). (a : ℕ) → Paired (given c.args.self.now) a n → ⊥) (ap (λ (s : State). (memory s).next) (sym c.self.view_is)) (next_unpaired (state_of c.self.inside) c.args.self.now c.self.view_is c.self.invariant.0)
 
 pub fresh_cells-requires : goal.fresh_cells-requires
 fresh_cells-requires c =

@@ -1,5 +1,3 @@
-use Rattle.std.proofs.Common.{◌∙◌}
-use Rattle.kt_heap.specs.Heap.{memory, given}
 use Rattle.kt_heap.specs.Inside.{state_of}
 use Rattle.kt_heap.proofs.Taking.{place_unpaired}
 use Rattle.kt_heap.proofs.heap.Heap.place.Goals as goal

@@ -1,4 +1,4 @@
-use Rattle.std.proofs.Common.{◌≡◌, ◌↔◌, ℕ, Option, None, Some, sym, ◌∙◌, ap, subst}
+use Rattle.std.proofs.Common.{◌≡◌, ◌↔◌, Option, None, Some, sym, ◌∙◌, ap, subst}
 use Rattle.std.specs.Option.{option_map, option_copied}
 use Rattle.kt_heap.specs.declared.keyed.Entry.{Entry}
 use Rattle.kt_heap.specs.Keyed.{Keyed, IsObjectAt, entry_in, entry_at}

@@ -1,9 +1,9 @@
-use Rattle.std.proofs.Common.{◌≡◌, ◌≢◌, ℕ, ◌+◌, ◌*◌, ◌<◌, List, Option, None, Some, IfOk, sym, ◌∙◌, ap, subst, arith}
+use Rattle.std.proofs.Common.{◌≡◌, ◌≢◌, ℕ, ◌+◌, ◌*◌, List, Option, None, Some, sym, ◌∙◌, ap, subst, arith}
 use Rattle.std.specs.Prelude.{slice_index_or}
 use Rattle.slab.specs.Slab.{Slab}
 use Rattle.kt_heap.specs.declared.keyed.Entry.{Entry}
-use Rattle.kt_heap.specs.Keys.{place_at, key_of, generation_of, IsKeyTaken}
-use Rattle.kt_heap.specs.Keyed.{Keyed, obj_at, IsPut}
+use Rattle.kt_heap.specs.Keys.{place_at, key_of, IsKeyTaken}
+use Rattle.kt_heap.specs.Keyed.{Keyed}
 use Rattle.kt_heap.proofs.Inserts.{inserted_put, inserted_keyed, unused_at, stays_used}
 use Rattle.kt_heap.proofs.KeyedLaws.{all_have_objects}
 use Rattle.kt_heap.proofs.Addresses.{key_of_address, generation_of_address}

@@ -1,6 +1,6 @@
-use Rattle.std.proofs.Common.{◌≡◌, ℕ, ◌<◌, [], ◌∷◌, ◌++◌, map, length, sym, ◌∙◌, ap, subst, arith, inr, Some}
+use Rattle.std.proofs.Common.{◌≡◌, ℕ, [], ◌∷◌, ◌++◌, map, length, subst, arith, inr, Some}
 use Rattle.std.proofs.lemmas.List.{length-map, length_push}
-use Rattle.kt_heap.specs.declared.keys.Key.TheVariants.{Used, Free}
+use Rattle.kt_heap.specs.declared.keys.Key.TheVariants.{Used}
 use Rattle.kt_heap.specs.Keys.{IsKeyPut}
 use Rattle.kt_heap.specs.Chain.{place_of}
 use Rattle.kt_heap.proofs.Chains.{place_past, put_push, chained_push}

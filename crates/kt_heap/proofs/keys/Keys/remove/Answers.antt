@@ -1,4 +1,4 @@
-use Rattle.std.proofs.Common.{◌≡◌, ℕ, ◌<◌, map, length, sym, ◌∙◌, ap, subst, arith}
+use Rattle.std.proofs.Common.{arith}
 use Rattle.std.proofs.lemmas.List.{length-set}
 use Rattle.kt_heap.specs.declared.keys.Key.TheVariants.{Used, Free}
 use Rattle.kt_heap.proofs.Chains.{get_within, put_set, chained_free, used_there}
