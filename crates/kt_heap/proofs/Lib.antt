@@ -9,3 +9,6 @@ pub mod Look
 pub mod Acts
 pub mod Stores
 pub mod Taking
+pub mod Pairs
+pub mod Renamed
+pub mod NumberLaws
