@@ -12,3 +12,4 @@ pub mod Taking
 pub mod Pairs
 pub mod Renamed
 pub mod NumberLaws
+pub mod GivenLaws

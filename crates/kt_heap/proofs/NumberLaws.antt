@@ -1,5 +1,5 @@
 -- The acts of memory by heap number are those by address.
-use Rattle.std.proofs.Common.{◌≡◌, ◌≢◌, ℕ, zero, suc, ◌+◌, ◌-◌, ◌==◌, ◌<◌, Bool, true, false, not, cond, List, [], ◌∷◌, ◌++◌, map, length, Option, None, Some, Result, Ok, Err, refl, sym, ◌∙◌, ap, subst, arith}
+use Rattle.std.proofs.Common.{◌≡◌, ℕ, zero, suc, ◌+◌, ◌-◌, ◌==◌, Bool, true, false, cond, [], ◌∷◌, ◌++◌, map, length, Option, None, Some, Result, Ok, Err, refl, sym, ◌∙◌, ap, subst, arith}
 use Rattle.std.specs.Option.{option_map, option_and_then}
 use Rattle.std.proofs.lemmas.List.{length-map}
 use mathlib.Core.Path.{fun_ext}
@@ -12,9 +12,9 @@ use Rattle.kt_mem.specs.declared.memory.Value.TheVariants.{Num, Null, Ptr, Free,
 use Rattle.kt_mem.specs.declared.steps.Trap.{Trap}
 use Rattle.kt_mem.specs.declared.steps.Trap.TheVariants as trap
 use Rattle.kt_mem.specs.Values.{name_eq, defined}
-use Rattle.kt_mem.specs.Memory.{Memory, Object, Cell, no_objects, put, value_at, and_then, written, with_value, object_with, unless_literal, load, store, locked, unlocked, initialised, held_by_other, released, without, made, fresh_object}
+use Rattle.kt_mem.specs.Memory.{Memory, Object, Cell, no_objects, put, value_at, and_then, written, with_value, object_with, unless_literal, locked, unlocked, initialised, held_by_other, released, without, fresh_object}
 use Rattle.kt_heap.specs.Heap.{Paired, IsNew, IsPairing}
-use Rattle.kt_heap.specs.ByNumber.{Pairs, number_of, address_paired, name_by_number, value_by_number, cell_by_number, object_by_number, object_named, by_number, answer_by, WasGiven, HoldsGiven, ActsByNumber, StartsByNumber, LoadsByNumber, StoresByNumber, ReleasesByNumber, LocksByNumber, UnlocksByNumber, InitsByNumber, WaitsByNumber, AllocsByNumber, CarriesNumber}
+use Rattle.kt_heap.specs.ByNumber.{Pairs, number_of, address_paired, name_by_number, value_by_number, cell_by_number, object_by_number, object_named, by_number, answer_by, WasGiven, HoldsGiven, StartsByNumber, LoadsByNumber, StoresByNumber, ReleasesByNumber, LocksByNumber, UnlocksByNumber, InitsByNumber, WaitsByNumber, AllocsByNumber, CarriesNumber}
 use Rattle.kt_heap.proofs.Places.{by_test}
 use Rattle.kt_heap.proofs.Pairs.{number_there, address_there, address_is_paired, address_kept, address_pushed}
 use Rattle.kt_heap.proofs.Renamed.{NameGiven, name_given, object_there, value_at_by, defined_by, object_with_by, fresh_object_by, object_pushed}

@@ -1,9 +1,9 @@
 -- Pairs of addresses and heap numbers: the number of an address, the address of a number, and both after one pair more.
-use Rattle.std.proofs.Common.{◌≡◌, ◌≢◌, ◌⊎◌, ℕ, zero, suc, ◌<◌, ◌==◌, Bool, true, false, cond, List, [], ◌∷◌, ◌++◌, length, Option, None, Some, refl, sym, ◌∙◌, ap, subst, arith, inl, inr}
+use Rattle.std.proofs.Common.{◌≡◌, ◌≢◌, ◌⊎◌, ℕ, zero, suc, ◌<◌, ◌==◌, cond, List, [], ◌∷◌, ◌++◌, length, None, Some, refl, sym, ◌∙◌, ap, subst, arith, inl, inr}
 use Rattle.std.specs.Prelude.{slice_index_or}
 use Rattle.std.specs.List.{Contains}
 use Rattle.kt_mem.specs.Memory.{Memory}
-use Rattle.kt_heap.specs.Heap.{Paired, IsNew, IsPairing}
+use Rattle.kt_heap.specs.Heap.{Paired, IsPairing}
 use Rattle.kt_heap.specs.ByNumber.{Pairs, number_of, address_paired}
 use Rattle.kt_heap.proofs.Places.{by_test}
 

@@ -134,6 +134,16 @@ abbrev pub StoresGiven : Type 0
 StoresGiven =
     (pairs : Pairs) (m after : Memory) (p v : Value) (t : Ty) → HoldsGiven pairs m → WasGiven pairs v → store m p t v ≡ Ok after → HoldsGiven pairs after
 
+-- what locks, unlocks and inits write names nothing
+abbrev pub LocksGiven : Type 0
+LocksGiven = (pairs : Pairs) (m after : Memory) (thread : ℕ) (p : Value) → HoldsGiven pairs m → lock m thread p ≡ Ok after → HoldsGiven pairs after
+
+abbrev pub UnlocksGiven : Type 0
+UnlocksGiven = (pairs : Pairs) (m after : Memory) (thread : ℕ) (p : Value) → HoldsGiven pairs m → unlock m thread p ≡ Ok after → HoldsGiven pairs after
+
+abbrev pub InitsGiven : Type 0
+InitsGiven = (pairs : Pairs) (m after : Memory) (p : Value) → HoldsGiven pairs m → init_mutex m p ≡ Ok after → HoldsGiven pairs after
+
 abbrev pub ReleasesGiven : Type 0
 ReleasesGiven = (pairs : Pairs) (m after : Memory) (p : Value) → HoldsGiven pairs m → release m p ≡ Ok after → HoldsGiven pairs after
 

@@ -9,10 +9,12 @@ mod faults;
 mod heap;
 mod keyed;
 mod keys;
+mod laws;
 mod literals;
 mod numbered;
 mod object;
 
 pub use faults::AllocFault;
 pub use heap::Heap;
+pub use laws::{by_number_law, given_law};
 pub use object::Obj;
