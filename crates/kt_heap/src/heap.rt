@@ -64,6 +64,7 @@ impl Heap {
     pub fn new(alloc: Global, next: u64) -> Heap
         ensures empty { memory result ≡ record { at = no_objects; next = next; live = 0 } }
         ensures pairs { given result ≡ [] }
+        ensures keys { key_count result ≡ 0 }
     {
         Heap {
             globals: Numbered::new(alloc),
@@ -135,6 +136,7 @@ impl Heap {
         ensures fault { IfErr result (λ e. alloc_fault (memory self.old) (length cells.now) count ≡ fault_trap e) }
         ensures kept { OnErr result (memory self.new ≡ memory self.old) }
         ensures pairs_kept { OnErr result (given self.new ≡ given self.old) }
+        ensures keys_kept { OnErr result (key_count self.new ≡ key_count self.old) }
     {
         if let Some(fault) = self.fault(cells.len(), count) {
             return Err(fault);
@@ -163,6 +165,7 @@ impl Heap {
         ensures trap { IfErr result (λ t. release (memory self.old) p ≡ Err t) }
         ensures kept { OnErr result (memory self.new ≡ memory self.old) }
         ensures pairs { given self.new ≡ given self.old }
+        ensures keys { key_count self.new ≡ key_count self.old }
     {
         match p {
             Value::Null => Ok(()),
@@ -196,6 +199,7 @@ impl Heap {
         ensures trap { IfErr result (λ t. store (memory self.old) p ty v ≡ Err t) }
         ensures kept { OnErr result (memory self.new ≡ memory self.old) }
         ensures pairs { given self.new ≡ given self.old }
+        ensures keys { key_count self.new ≡ key_count self.old }
     {
         match p {
             Value::Null => Err(Trap::Null),
@@ -240,6 +244,7 @@ impl Heap {
         ensures set { OnOk result (memory self.new ≡ with_object (memory self.old) (name.Glob i) (shown obj)) }
         ensures kept { OnErr result (memory self.new ≡ memory self.old) }
         ensures pairs { given self.new ≡ given self.old }
+        ensures keys { key_count self.new ≡ key_count self.old }
     {
         self.globals.set(u64::from(i), obj)
     }
@@ -249,6 +254,7 @@ impl Heap {
         ensures set { OnOk result (memory self.new ≡ with_object (memory self.old) (name.Lit v i) (shown obj)) }
         ensures kept { OnErr result (memory self.new ≡ memory self.old) }
         ensures pairs { given self.new ≡ given self.old }
+        ensures keys { key_count self.new ≡ key_count self.old }
     {
         self.literals.set(v, i, obj)
     }
@@ -266,9 +272,12 @@ impl Heap {
         ensures pair { IfOk result (λ a. given self.new ≡ given self.old ++ (a, obj.serial) ∷ []) }
         ensures fresh { IfOk result (λ a. IsNew (given self.old) a) }
         ensures unused { IfOk result (λ a. (memory self.old).at (name.Heap a) ≡ None) }
+        ensures generation { IfOk result (λ a. generation_of a ≡ length (given self.old)) }
+        ensures key { IfOk result (λ a. TakesKey (memory self.old) (key_count self.old) (key_count self.new) a) }
         ensures address { IfOk result (λ a. a ≡ place_address (length (given self.old))) }
         ensures kept { OnErr result (memory self.new ≡ memory self.old) }
         ensures pairs_kept { OnErr result (given self.new ≡ given self.old) }
+        ensures keys_kept { OnErr result (key_count self.new ≡ key_count self.old) }
     {
         let next = self.next;
         self.add(obj, next)
@@ -305,6 +314,7 @@ impl Heap {
         ensures address { AreAllLive (given self.old) (memory self.old) → IfOk result (λ a. a ≡ place_address (length (given self.old))) }
         ensures kept { OnErr result (memory self.new ≡ memory self.old) }
         ensures pairs_kept { OnErr result (given self.new ≡ given self.old) }
+        ensures keys_kept { OnErr result (key_count self.new ≡ key_count self.old) }
     {
         let serial = obj.serial;
         let size = obj.cells.as_slice().len() as u64;
@@ -335,6 +345,7 @@ impl Heap {
         ensures trap { IfErr result (λ t. store (memory self.old) (value.Ptr name offset) cell.ty cell.value ≡ Err t) }
         ensures kept { OnErr result (memory self.new ≡ memory self.old) }
         ensures pairs { given self.new ≡ given self.old }
+        ensures keys { key_count self.new ≡ key_count self.old }
     {
         match name {
             Name::Glob(i) => self.globals.store(u64::from(i), offset, cell),
@@ -355,6 +366,7 @@ impl Heap {
         ensures trap { IfErr result (λ t. release (memory self.old) (value.Ptr name offset) ≡ Err t) }
         ensures kept { OnErr result (memory self.new ≡ memory self.old) }
         ensures pairs { given self.new ≡ given self.old }
+        ensures keys { key_count self.new ≡ key_count self.old }
     {
         if self.named(name).is_none() {
             return Err(Trap::Dead);
@@ -373,6 +385,7 @@ impl Heap {
         requires { IsSome ((memory self.old).at (name.Heap a)) }
         ensures freed { IfSome ((memory self.old).at (name.Heap a)) (λ o. memory self.new ≡ without (memory self.old) a o) }
         ensures pairs { given self.new ≡ given self.old }
+        ensures keys { key_count self.new ≡ key_count self.old }
     {
         if let Some(obj) = self.objects.take(a) {
             self.numbers.remove(&obj.serial);
