@@ -12,6 +12,7 @@ use Rattle.kt_heap.specs.Keyed.{Keyed, obj_at, IsPut}
 use Rattle.kt_heap.specs.Heap.{State, memory, given, Paired, IsNew}
 use Rattle.kt_heap.specs.Inside.{IsFilled, HasDead, IsHeap}
 use Rattle.kt_heap.proofs.Places.{by_test}
+use Rattle.kt_heap.proofs.Pairs.{once_pushed}
 
 -- the object at an address after a change there, and elsewhere
 pub put_here : (old new : Keyed) (a : ℕ) (o : Option Obj) → IsPut old new a o → obj_at new a ≡ o
@@ -127,6 +128,7 @@ module _ (s : State) (h : Keyed) (next used a : ℕ) (o : Obj) (kept : IsHeap s)
   keeps_given =
       record {
         pairing = record { numbers = one_number; addresses = one_address; below = numbers_below; live = live_paired };
+        once = once_pushed s.pairs a o.serial kept.once (address_is_new s a kept generation) unpaired;
         generations = earlier_generations;
         filled = still_filled kept.filled;
         room = room;
@@ -139,6 +141,7 @@ unfolding memory
 keeps_freed s h used a o kept put was room =
     record {
       pairing = record { numbers = kept.pairing.numbers; addresses = kept.pairing.addresses; below = kept.pairing.below; live = live };
+      once = kept.once;
       generations = kept.generations;
       filled = inr (a, o.serial, kept.pairing.live a (shown o) (ap (option_map shown) was), ap (option_map shown) (put_here s.objects h a None put));
       room = room;
@@ -155,6 +158,7 @@ unfolding memory
 keeps_stored s h a k c kept put keys =
     record {
       pairing = record { numbers = kept.pairing.numbers; addresses = kept.pairing.addresses; below = kept.pairing.below; live = live };
+      once = kept.once;
       generations = kept.generations;
       filled = still_filled kept.filled;
       room = kept.room;
@@ -189,6 +193,7 @@ unfolding memory
 keeps_globals s ys kept =
     record {
       pairing = record { numbers = kept.pairing.numbers; addresses = kept.pairing.addresses; below = kept.pairing.below; live = kept.pairing.live };
+      once = kept.once;
       generations = kept.generations;
       filled = kept.filled;
       room = kept.room;
@@ -199,6 +204,7 @@ unfolding memory
 keeps_literals s ys kept =
     record {
       pairing = record { numbers = kept.pairing.numbers; addresses = kept.pairing.addresses; below = kept.pairing.below; live = kept.pairing.live };
+      once = kept.once;
       generations = kept.generations;
       filled = kept.filled;
       room = kept.room;

@@ -2,8 +2,9 @@
 use Rattle.std.proofs.Common.{◌≡◌, ◌≢◌, ◌⊎◌, ℕ, zero, suc, ◌<◌, ◌==◌, cond, List, [], ◌∷◌, ◌++◌, length, None, Some, refl, sym, ◌∙◌, ap, subst, arith, inl, inr}
 use Rattle.std.specs.Prelude.{slice_index_or}
 use Rattle.std.specs.List.{Contains}
+use Rattle.std.proofs.lemmas.List.Elements.{Contains-push_cases}
 use Rattle.kt_mem.specs.Memory.{Memory}
-use Rattle.kt_heap.specs.Heap.{Paired, IsPairing}
+use Rattle.kt_heap.specs.Heap.{Paired, IsNew, AreOneToOne, IsPairing}
 use Rattle.kt_heap.specs.ByNumber.{Pairs, number_of, address_paired}
 use Rattle.kt_heap.proofs.Places.{by_test}
 
@@ -74,3 +75,9 @@ pub address_pushed : (ps : Pairs) (a n k : ℕ) → address_paired ps k ≡ None
 address_pushed [] a n k h = refl
 address_pushed (p ∷ ps) a n k h =
     by_test (λ t. cond t (Some p.0) (address_paired ps k) ≡ None → cond t (Some p.0) (address_paired (ps ++ (a, n) ∷ []) k) ≡ cond (n == k) (Some a) None) p.1 k (λ _ e. let never : ⊥ = cc in absurd never) (λ _ e. address_pushed ps a n k e) h
+
+-- a new address and a new number stand nowhere else
+pub once_pushed : (ps : Pairs) (a n : ℕ) → AreOneToOne ps → IsNew ps a → ((b : ℕ) → Paired ps b n → ⊥) → AreOneToOne (ps ++ (a, n) ∷ [])
+once_pushed [] a n once new unpaired = (λ k p. none_in_empty a k p, λ b p. none_in_empty b n p, tt)
+once_pushed (p ∷ ps) a n once new unpaired =
+    (λ k q. elim (Contains-push_cases ps (a, n) (p.0, k) q) [ inl r ↦ once.0 k r | inr e ↦ new p.1 (subst (λ (x : ℕ). Paired (p ∷ ps) x p.1) (sym (ap (λ (x : ℕ × ℕ). x.0) e)) (paired_first p ps)) ], λ b q. elim (Contains-push_cases ps (a, n) (b, p.1) q) [ inl r ↦ once.1 b r | inr e ↦ unpaired p.0 (subst (λ (x : ℕ). Paired (p ∷ ps) p.0 x) (sym (ap (λ (x : ℕ × ℕ). x.1) e)) (paired_first p ps)) ], once_pushed ps a n once.2 (λ k r. new k (paired_rest p ps a k r)) (λ b r. unpaired b (paired_rest p ps b n r)))

@@ -1,6 +1,6 @@
 -- The memory that a heap stands for, whose heap names are addresses, the pairs of address and heap number that the heap
 -- gave out, and how many keys it made (C 6.2.4, 7.22.3). Clauses speak of a heap through these three alone.
-use Rattle.std.specs.Prelude.{◌≡◌, ◌⊎◌, ℕ, ◌+◌, ◌*◌, ◌<◌, List, length, Option, None, Some, IsSome}
+use Rattle.std.specs.Prelude.{◌≡◌, ◌⊎◌, ℕ, ◌+◌, ◌*◌, ◌<◌, List, [], ◌∷◌, length, Option, None, Some, IsSome}
 use Rattle.std.specs.List.{Contains}
 use Rattle.std.specs.Option.{option_map}
 use Rattle.kt_mem.specs.declared.memory.Name.{Name}
@@ -54,6 +54,11 @@ Paired pairs a n = Contains pairs (a, n)
 -- an address was not given out
 abbrev pub IsNew : List (ℕ × ℕ) → ℕ → Type 0
 IsNew pairs a = (n : ℕ) → Paired pairs a n → ⊥
+
+-- no address and no heap number stands twice
+abbrev pub AreOneToOne : List (ℕ × ℕ) → Type 0
+AreOneToOne [] = Unit {0}
+AreOneToOne (p ∷ ps) = IsNew ps p.0 × ((a : ℕ) → Paired ps a p.1 → ⊥) × AreOneToOne ps
 
 -- each address that was given out is that of a live object
 abbrev pub AreAllLive : List (ℕ × ℕ) → Memory → Type 0

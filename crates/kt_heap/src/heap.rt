@@ -7,7 +7,7 @@ ghost use Rattle.kt_mem.specs.declared.memory.Name.TheVariants as name;
 ghost use Rattle.kt_mem.specs.declared.memory.Value.TheVariants as value;
 ghost use Rattle.kt_mem.specs.Memory.{no_objects, load, store, release, made, without, fresh_object, alloc_fault};
 ghost use Rattle.kt_heap.specs.Objects.{shown};
-ghost use Rattle.kt_heap.specs.Heap.{memory, given, Paired, IsNew, AreAllLive, key_count, IsPairing, IsLiveAt, TakesKey, number_at, with_object, with_added, with_placed, place_address, fault_trap};
+ghost use Rattle.kt_heap.specs.Heap.{memory, given, Paired, IsNew, AreAllLive, key_count, AreOneToOne, IsPairing, IsLiveAt, TakesKey, number_at, with_object, with_added, with_placed, place_address, fault_trap};
 ghost use Rattle.kt_heap.specs.Keys.{key_of, generation_of};
 
 use crate::faults::AllocFault;
@@ -108,7 +108,8 @@ impl Heap {
 
     /// The pairs of addresses and heap numbers are one to one, and each live heap object is at the address of its number.
     pub fn law(&self)
-        ensures { IsPairing (given self.now) (memory self.now) }
+        ensures pairing { IsPairing (given self.now) (memory self.now) }
+        ensures once { AreOneToOne (given self.now) }
     {
         let _ = &self.next;
     }
