@@ -86,3 +86,8 @@ found_some (Some x) q e h = rw (← e) refl
 pub on_ok_both : {T E A B P : Type 0} (r : Result T E) → (A → B → P) → OnOk r A → OnOk r B → OnOk r P
 on_ok_both (Ok x) f a b = f a b
 on_ok_both (Err e) f a b = tt
+
+-- what holds of a result that is a success
+pub ok_then : {T E P : Type 0} (r : Result T E) → IsOk r → OnOk r P → P
+ok_then (Ok x) h p = p
+ok_then (Err e) h p = let never : ⊥ = cc in absurd never

@@ -1,6 +1,15 @@
 pub mod Places
+pub mod Chains
 pub mod Addresses
-pub mod Look
+pub mod Inserts
+pub mod KeyedLaws
+pub mod Pairs
 pub mod Keeps
+pub mod NumbersKept
+pub mod Look
 pub mod Acts
 pub mod Stores
+pub mod Taking
+pub mod Renamed
+pub mod NumberLaws
+pub mod GivenLaws

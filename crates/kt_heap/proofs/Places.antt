@@ -17,23 +17,23 @@ pub by_less : (P : Bool → Type 0) (a b : ℕ) → (a < b → P true) → (b �
 by_less P a b less not_less =
     elim (leb_tells (suc a) b) [ inl p ↦ subst P (sym p.0) (less (omega arith)) | inr p ↦ subst P (sym p.0) (not_less (omega arith)) ]
 
-slice_get-set_same : {X : Type 0} (xs : List X) (i : ℕ) (x : X) → i < length xs → slice_get (slice_set xs i x) i ≡ Some x
+pub slice_get-set_same : {X : Type 0} (xs : List X) (i : ℕ) (x : X) → i < length xs → slice_get (slice_set xs i x) i ≡ Some x
 slice_get-set_same [] i x h = absurd (omega arith)
 slice_get-set_same (y ∷ ys) zero x h = refl
 slice_get-set_same (y ∷ ys) (suc i) x h = slice_get-set_same ys i x (omega arith)
 
-slice_get-set_other : {X : Type 0} (xs : List X) (i : ℕ) (x : X) (j : ℕ) → j ≢ i → slice_get (slice_set xs i x) j ≡ slice_get xs j
+pub slice_get-set_other : {X : Type 0} (xs : List X) (i : ℕ) (x : X) (j : ℕ) → j ≢ i → slice_get (slice_set xs i x) j ≡ slice_get xs j
 slice_get-set_other [] i x j ne = refl
 slice_get-set_other (y ∷ ys) zero x zero ne = absurd (ne refl)
 slice_get-set_other (y ∷ ys) zero x (suc j) ne = refl
 slice_get-set_other (y ∷ ys) (suc i) x zero ne = refl
 slice_get-set_other (y ∷ ys) (suc i) x (suc j) ne = slice_get-set_other ys i x j (λ e. ne (ap suc e))
 
-slice_get-push_same : {X : Type 0} (xs : List X) (x : X) → slice_get (xs ++ x ∷ []) (length xs) ≡ Some x
+pub slice_get-push_same : {X : Type 0} (xs : List X) (x : X) → slice_get (xs ++ x ∷ []) (length xs) ≡ Some x
 slice_get-push_same [] x = refl
 slice_get-push_same (y ∷ ys) x = slice_get-push_same ys x
 
-slice_get-push_other : {X : Type 0} (xs : List X) (x : X) (j : ℕ) → j ≢ length xs → slice_get (xs ++ x ∷ []) j ≡ slice_get xs j
+pub slice_get-push_other : {X : Type 0} (xs : List X) (x : X) (j : ℕ) → j ≢ length xs → slice_get (xs ++ x ∷ []) j ≡ slice_get xs j
 slice_get-push_other [] x zero ne = absurd (ne refl)
 slice_get-push_other [] x (suc j) ne = refl
 slice_get-push_other (y ∷ ys) x zero ne = refl

@@ -1,4 +1,7 @@
 pub mod Objects
-pub mod ByAddress
+pub mod Keys
+pub mod Keyed
 pub mod Heap
+pub mod ByNumber
+pub mod Chain
 pub mod Inside

@@ -1,5 +1,5 @@
 //! The heap.
-#![tactic(auto, unfolding(crate::specs::Heap::memory, crate::specs::Heap::given))]
+#![tactic(auto, unfolding(crate::specs::Heap::memory, crate::specs::Heap::given, crate::specs::Heap::key_count))]
 
 ghost use Rattle.std.specs.Prelude.{◌≡◌, ◌↔◌, ◌+◌, ◌<◌, ◌≤◌, ℕ, [], ◌∷◌, ◌++◌, length, None, Some, Ok, Err, IsSome, IfSome, IfOk, OnOk, IfErr, OnErr, MatchOption};
 ghost use Rattle.std.specs.Option.{option_map, option_copied};
@@ -7,16 +7,18 @@ ghost use Rattle.kt_mem.specs.declared.memory.Name.TheVariants as name;
 ghost use Rattle.kt_mem.specs.declared.memory.Value.TheVariants as value;
 ghost use Rattle.kt_mem.specs.Memory.{no_objects, load, store, release, made, without, fresh_object, alloc_fault};
 ghost use Rattle.kt_heap.specs.Objects.{shown};
-ghost use Rattle.kt_heap.specs.Heap.{memory, given, Paired, IsNew, number_at, with_object, with_placed, place_address, fault_trap};
+ghost use Rattle.kt_heap.specs.Heap.{memory, given, Paired, IsNew, AreAllLive, key_count, AreOneToOne, IsPairing, IsLiveAt, TakesKey, number_at, with_object, with_added, with_placed, place_address, fault_trap};
+ghost use Rattle.kt_heap.specs.Keys.{key_of, generation_of};
 
-use crate::by_address::ByAddress;
 use crate::faults::AllocFault;
+use crate::keyed::Keyed;
 use crate::literals::Literals;
+use crate::numbered::Numbered;
 use crate::object::{Obj, fresh_cells};
-use crate::slots::Slots;
 use kt_mem::{Cell, Name, Trap, Value, defined};
 use kt_types::Ty;
 use std::alloc::{AllocError, Global};
+use std::collections::HashMap;
 use std::marker::Model;
 
 /// How many cells an allocation may have.
@@ -30,9 +32,13 @@ const LIVE_LIMIT: u64 = 4_194_304;
 /// An address of a heap object is given out once.
 #[derive(Drop)]
 pub struct Heap {
-    globals: Slots,
+    globals: Numbered,
     literals: Literals,
-    objects: ByAddress,
+    objects: Keyed,
+    // The address of each live heap object, by its heap number.
+    numbers: HashMap<u64, u64>,
+    // The next heap number.
+    next: u64,
     // The cells of the live heap objects.
     live: u64,
     // Each address that was given out, with its heap number.
@@ -44,11 +50,13 @@ impl Model for Heap {
 
     ghost Value = { State };
 
-    ghost use Rattle.kt_heap.specs.Inside.{state_of, KeepsHeap};
+    ghost use Rattle.kt_heap.specs.Inside.{state_of, IsHeap, HasNumbers};
+    ghost use Rattle.std.specs.Prelude.{◌==◌};
+    ghost use Rattle.std.specs.HashMap.{get};
 
     ghost view = { state_of };
 
-    ghost invariant = { KeepsHeap };
+    ghost invariant = { λ h. IsHeap (state_of h) × HasNumbers (get (λ n k. n == k) h.numbers) (state_of h) };
 }
 
 impl Heap {
@@ -56,11 +64,14 @@ impl Heap {
     pub fn new(alloc: Global, next: u64) -> Heap
         ensures empty { memory result ≡ record { at = no_objects; next = next; live = 0 } }
         ensures pairs { given result ≡ [] }
+        ensures keys { key_count result ≡ 0 }
     {
         Heap {
-            globals: Slots::new(alloc),
+            globals: Numbered::new(alloc),
             literals: Literals::new(alloc),
-            objects: ByAddress::new(alloc, next),
+            objects: Keyed::new(alloc),
+            numbers: HashMap::new(alloc),
+            next,
             live: 0,
             given: Vec::new(alloc),
         }
@@ -70,7 +81,7 @@ impl Heap {
     pub fn next(&self) -> u64
         ensures { result ≡ (memory self.now).next }
     {
-        self.objects.next()
+        self.next
     }
 
     /// How many addresses were given out.
@@ -78,6 +89,29 @@ impl Heap {
         ensures { result ≡ length (given self.now) }
     {
         self.given.len() as u64
+    }
+
+    /// How many keys were made. Each live heap object's key is below.
+    pub fn slots(&self) -> u32
+        ensures count { result ≡ key_count self.now }
+        ensures above { (a : ℕ) → IsSome ((memory self.now).at (name.Heap a)) → key_of a < result }
+    {
+        self.objects.keys()
+    }
+
+    /// The address of the live heap object at a key: none where there is none.
+    pub fn at_key(&self, key: u32) -> Option<u64>
+        ensures { (a : ℕ) → (result ≡ Some a) ↔ IsLiveAt (memory self.now) key a }
+    {
+        self.objects.at_key(key)
+    }
+
+    /// The pairs of addresses and heap numbers are one to one, and each live heap object is at the address of its number.
+    pub fn law(&self)
+        ensures pairing { IsPairing (given self.now) (memory self.now) }
+        ensures once { AreOneToOne (given self.now) }
+    {
+        let _ = &self.next;
     }
 
     /// Makes a heap object of `count` elements at an address that was never given out: `ty` is the place of the element
@@ -94,7 +128,8 @@ impl Heap {
         requires numbers { (memory self.old).next < 9223372036854775807 }
         requires addresses { length (given self.old) < 4294967296 }
         ensures made { IfOk result (λ a. memory self.new ≡ made (memory self.old) a (fresh_object (memory self.old).next ty cells.now count zero)) }
-        ensures number { IfOk result (λ a. a ≡ (memory self.old).next) }
+        ensures generation { IfOk result (λ a. generation_of a ≡ length (given self.old)) }
+        ensures key { IfOk result (λ a. TakesKey (memory self.old) (key_count self.old) (key_count self.new) a) }
         ensures pair { IfOk result (λ a. given self.new ≡ given self.old ++ (a, (memory self.old).next) ∷ []) }
         ensures fresh { IfOk result (λ a. IsNew (given self.old) a) }
         ensures unused { IfOk result (λ a. (memory self.old).at (name.Heap a) ≡ None) }
@@ -102,23 +137,25 @@ impl Heap {
         ensures fault { IfErr result (λ e. alloc_fault (memory self.old) (length cells.now) count ≡ fault_trap e) }
         ensures kept { OnErr result (memory self.new ≡ memory self.old) }
         ensures pairs_kept { OnErr result (given self.new ≡ given self.old) }
+        ensures keys_kept { OnErr result (key_count self.new ≡ key_count self.old) }
     {
         if let Some(fault) = self.fault(cells.len(), count) {
             return Err(fault);
         }
-        let serial = self.objects.next();
         let cells = match fresh_cells(*self.given.allocator(), cells, count, zero) {
             Err(_) => return Err(AllocFault::NoMemory),
             Ok(cells) => cells,
         };
-        match self.add(Obj {
+        let serial = self.next;
+        let obj = Obj {
             ty,
             count,
             serial,
             cells,
-        }) {
+        };
+        match self.add(obj, serial + 1) {
             Err(_) => Err(AllocFault::NoMemory),
-            Ok(()) => Ok(serial),
+            Ok(a) => Ok(a),
         }
     }
 
@@ -129,6 +166,7 @@ impl Heap {
         ensures trap { IfErr result (λ t. release (memory self.old) p ≡ Err t) }
         ensures kept { OnErr result (memory self.new ≡ memory self.old) }
         ensures pairs { given self.new ≡ given self.old }
+        ensures keys { key_count self.new ≡ key_count self.old }
     {
         match p {
             Value::Null => Ok(()),
@@ -162,6 +200,7 @@ impl Heap {
         ensures trap { IfErr result (λ t. store (memory self.old) p ty v ≡ Err t) }
         ensures kept { OnErr result (memory self.new ≡ memory self.old) }
         ensures pairs { given self.new ≡ given self.old }
+        ensures keys { key_count self.new ≡ key_count self.old }
     {
         match p {
             Value::Null => Err(Trap::Null),
@@ -181,9 +220,9 @@ impl Heap {
     pub fn object_of(&self, serial: u64) -> Option<u64>
         ensures { (a : ℕ) → (result ≡ Some a) ↔ (number_at (memory self.now) a ≡ Some serial) }
     {
-        match self.objects.get(serial) {
+        match self.numbers.get(&serial) {
             None => None,
-            Some(_) => Some(serial),
+            Some(a) => Some(*a),
         }
     }
 
@@ -206,6 +245,7 @@ impl Heap {
         ensures set { OnOk result (memory self.new ≡ with_object (memory self.old) (name.Glob i) (shown obj)) }
         ensures kept { OnErr result (memory self.new ≡ memory self.old) }
         ensures pairs { given self.new ≡ given self.old }
+        ensures keys { key_count self.new ≡ key_count self.old }
     {
         self.globals.set(u64::from(i), obj)
     }
@@ -215,6 +255,7 @@ impl Heap {
         ensures set { OnOk result (memory self.new ≡ with_object (memory self.old) (name.Lit v i) (shown obj)) }
         ensures kept { OnErr result (memory self.new ≡ memory self.old) }
         ensures pairs { given self.new ≡ given self.old }
+        ensures keys { key_count self.new ≡ key_count self.old }
     {
         self.literals.set(v, i, obj)
     }
@@ -226,23 +267,21 @@ impl Heap {
         requires not_live { (a : ℕ) → number_at (memory self.old) a ≡ Some obj.serial → ⊥ }
         requires some_cell { 1 ≤ length obj.cells }
         requires room { (memory self.old).live + length obj.cells ≤ 4194304 }
-        requires all_live { (a n : ℕ) → Paired (given self.old) a n → IsSome ((memory self.old).at (name.Heap a)) }
+        requires all_live { AreAllLive (given self.old) (memory self.old) }
         requires addresses { length (given self.old) < 4294967296 }
         ensures placed { IfOk result (λ a. memory self.new ≡ with_placed (memory self.old) a (shown obj)) }
         ensures pair { IfOk result (λ a. given self.new ≡ given self.old ++ (a, obj.serial) ∷ []) }
         ensures fresh { IfOk result (λ a. IsNew (given self.old) a) }
         ensures unused { IfOk result (λ a. (memory self.old).at (name.Heap a) ≡ None) }
-        ensures address { IfOk result (λ a. a ≡ place_address (length (given self.old)) obj.serial) }
+        ensures generation { IfOk result (λ a. generation_of a ≡ length (given self.old)) }
+        ensures key { IfOk result (λ a. TakesKey (memory self.old) (key_count self.old) (key_count self.new) a) }
+        ensures address { IfOk result (λ a. a ≡ place_address (length (given self.old))) }
         ensures kept { OnErr result (memory self.new ≡ memory self.old) }
         ensures pairs_kept { OnErr result (given self.new ≡ given self.old) }
+        ensures keys_kept { OnErr result (key_count self.new ≡ key_count self.old) }
     {
-        let serial = obj.serial;
-        let size = obj.cells.as_slice().len() as u64;
-        self.given.reserve(1)?;
-        self.objects.set(serial, obj)?;
-        self.given.push_reserved((serial, serial));
-        self.live += size;
-        Ok(serial)
+        let next = self.next;
+        self.add(obj, next)
     }
 
     /// Why an allocation of a count of elements of so many cells fails, want of memory aside.
@@ -260,25 +299,34 @@ impl Heap {
         None
     }
 
-    /// Adds an object under the next heap number.
-    fn add(&mut self, obj: Obj) -> Result<(), AllocError>
-        requires serial { obj.serial ≡ (memory self.old).next }
-        requires numbers { (memory self.old).next < 9223372036854775807 }
+    /// Adds a heap object under a heap number that was not paired with an address. The next heap number is `next` then.
+    fn add(&mut self, obj: Obj, next: u64) -> Result<u64, AllocError>
+        requires unpaired { (a : ℕ) → Paired (given self.old) a obj.serial → ⊥ }
+        requires below { obj.serial < next }
+        requires later { (memory self.old).next ≤ next }
         requires room { (memory self.old).live + length obj.cells ≤ 4194304 }
-        ensures made { OnOk result (memory self.new ≡ made (memory self.old) obj.serial (shown obj)) }
-        ensures pair { OnOk result (given self.new ≡ given self.old ++ (obj.serial, obj.serial) ∷ []) }
-        ensures fresh { OnOk result (IsNew (given self.old) obj.serial) }
-        ensures unused { OnOk result ((memory self.old).at (name.Heap obj.serial) ≡ None) }
+        requires addresses { length (given self.old) < 4294967296 }
+        ensures added { IfOk result (λ a. memory self.new ≡ with_added (memory self.old) a next (shown obj)) }
+        ensures pair { IfOk result (λ a. given self.new ≡ given self.old ++ (a, obj.serial) ∷ []) }
+        ensures fresh { IfOk result (λ a. IsNew (given self.old) a) }
+        ensures unused { IfOk result (λ a. (memory self.old).at (name.Heap a) ≡ None) }
+        ensures generation { IfOk result (λ a. generation_of a ≡ length (given self.old)) }
+        ensures key { IfOk result (λ a. TakesKey (memory self.old) (key_count self.old) (key_count self.new) a) }
+        ensures address { AreAllLive (given self.old) (memory self.old) → IfOk result (λ a. a ≡ place_address (length (given self.old))) }
         ensures kept { OnErr result (memory self.new ≡ memory self.old) }
         ensures pairs_kept { OnErr result (given self.new ≡ given self.old) }
+        ensures keys_kept { OnErr result (key_count self.new ≡ key_count self.old) }
     {
         let serial = obj.serial;
         let size = obj.cells.as_slice().len() as u64;
         self.given.reserve(1)?;
-        self.objects.push(obj)?;
-        self.given.push_reserved((serial, serial));
+        self.numbers.reserve(1)?;
+        let a = self.objects.insert(self.given.len() as u64, obj)?;
+        let _ = self.numbers.insert(serial, a);
+        self.given.push_reserved((a, serial));
         self.live += size;
-        Ok(())
+        self.next = next;
+        Ok(a)
     }
 
     /// The object under a name.
@@ -298,6 +346,7 @@ impl Heap {
         ensures trap { IfErr result (λ t. store (memory self.old) (value.Ptr name offset) cell.ty cell.value ≡ Err t) }
         ensures kept { OnErr result (memory self.new ≡ memory self.old) }
         ensures pairs { given self.new ≡ given self.old }
+        ensures keys { key_count self.new ≡ key_count self.old }
     {
         match name {
             Name::Glob(i) => self.globals.store(u64::from(i), offset, cell),
@@ -318,6 +367,7 @@ impl Heap {
         ensures trap { IfErr result (λ t. release (memory self.old) (value.Ptr name offset) ≡ Err t) }
         ensures kept { OnErr result (memory self.new ≡ memory self.old) }
         ensures pairs { given self.new ≡ given self.old }
+        ensures keys { key_count self.new ≡ key_count self.old }
     {
         if self.named(name).is_none() {
             return Err(Trap::Dead);
@@ -336,8 +386,10 @@ impl Heap {
         requires { IsSome ((memory self.old).at (name.Heap a)) }
         ensures freed { IfSome ((memory self.old).at (name.Heap a)) (λ o. memory self.new ≡ without (memory self.old) a o) }
         ensures pairs { given self.new ≡ given self.old }
+        ensures keys { key_count self.new ≡ key_count self.old }
     {
         if let Some(obj) = self.objects.take(a) {
+            self.numbers.remove(&obj.serial);
             self.live = self.live.saturating_sub(obj.cells.as_slice().len() as u64);
         }
     }

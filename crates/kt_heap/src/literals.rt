@@ -3,15 +3,15 @@ ghost use Rattle.std.specs.Prelude.{◌≡◌, ◌==◌, ◌&&◌, ◌<◌, ℕ,
 ghost use Rattle.std.specs.Option.{option_copied};
 ghost use Rattle.kt_heap.specs.Objects.{held_by};
 
+use crate::numbered::Numbered;
 use crate::object::Obj;
-use crate::slots::Slots;
 use std::alloc::{AllocError, Global};
 use std::marker::Model;
 
 /// For each version, the places of its literals.
 #[derive(Drop)]
 pub struct Literals {
-    versions: Vec<Slots>,
+    versions: Vec<Numbered>,
 }
 
 impl Model for Literals {
@@ -39,7 +39,7 @@ impl Literals {
     {
         match self.versions.get(usize::from(version)) {
             None => None,
-            Some(slots) => slots.get(u64::from(number)),
+            Some(literals) => literals.get(u64::from(number)),
         }
     }
 
@@ -54,14 +54,14 @@ impl Literals {
 }
 
 /// Makes empty versions until there is the one of this number.
-fn make_versions(versions: &mut Vec<Slots>, version: usize) -> Result<(), AllocError>
+fn make_versions(versions: &mut Vec<Numbered>, version: usize) -> Result<(), AllocError>
     requires { version < 256 }
     ensures len { OnOk result (version < length versions.new.items) }
     ensures same { (v i : ℕ) → held_by versions.new.items v i ≡ held_by versions.old.items v i }
 {
     let alloc = *versions.allocator();
     while versions.len() <= version {
-        versions.push(Slots::new(alloc))?;
+        versions.push(Numbered::new(alloc))?;
     }
     Ok(())
 }

@@ -1,5 +1,5 @@
 //! Objects.
-ghost use Rattle.std.specs.Prelude.{◌≡◌, ◌*◌, ◌<◌, ◌≤◌, List, length, map, Some, IfOk};
+ghost use Rattle.std.specs.Prelude.{◌≡◌, ◌*◌, ◌≤◌, ◌++◌, length, map, Some, Err, IfOk, IsOk, OnOk, IfErr, OnErr};
 ghost use Rattle.kt_mem.specs.Memory.{value_in, fresh_cell, repeated, zero_value};
 ghost use Rattle.kt_heap.specs.Objects.{shown, obj_with};
 
@@ -37,19 +37,16 @@ impl Obj {
         }
     }
 
-    /// The object with another cell at an offset. It moves no cell.
-    pub(crate) fn with_cell(self, offset: u32, cell: Cell) -> Obj
-        requires { offset < length self.cells }
-        ensures { result ≡ obj_with offset cell self }
+    /// Writes a cell in its place: `bounds` past the object, and at a cell of another type.
+    pub(crate) fn store(&mut self, offset: u32, cell: Cell) -> Result<(), Trap>
+        ensures written { OnOk result (self.new ≡ obj_with offset cell self.old) }
+        ensures there { OnOk result (IsOk (value_in (Some (shown self.old)) offset cell.ty)) }
+        ensures trap { IfErr result (λ t. value_in (Some (shown self.old)) offset cell.ty ≡ Err t) }
+        ensures kept { OnErr result (self.new ≡ self.old) }
     {
-        let mut cells = self.cells.into_vec();
-        cells[offset as usize] = cell;
-        Obj {
-            ty: self.ty,
-            count: self.count,
-            serial: self.serial,
-            cells: Cells::from_vec(cells),
-        }
+        self.value(offset, cell.ty())?;
+        self.cells.set(offset as usize, cell);
+        Ok(())
     }
 }
 
@@ -73,18 +70,24 @@ fn fresh_cell(ty: Ty, zero: bool) -> Cell
     Cell::new(ty, value)
 }
 
-/// The cells of so many new elements, where an element has cells of these types.
+/// The cells of so many new elements, where an element has cells of these types, in one vector.
 pub fn fresh_cells(alloc: Global, types: &[Ty], count: u32, zero: bool) -> Result<Cells, AllocError>
     requires { count * length types.now ≤ 65536 }
     ensures { IfOk result (λ cs. cs ≡ repeated count (map (fresh_cell zero) types.now)) }
 {
-    let mut element = Vec::with_capacity(alloc, types.len())?;
-    for ty in types {
-        element.push(fresh_cell(*ty, zero))?;
-    }
     let mut cells = Vec::with_capacity(alloc, count as usize * types.len())?;
     for _ in 0..count {
-        cells.extend_from_slice(element.as_slice())?;
+        push_element(&mut cells, types, zero)?;
     }
     Ok(Cells::from_vec(cells))
+}
+
+/// Adds the cells of a new element.
+fn push_element(cells: &mut Vec<Cell>, types: &[Ty], zero: bool) -> Result<(), AllocError>
+    ensures { OnOk result (cells.new.items ≡ cells.old.items ++ map (fresh_cell zero) types.now) }
+{
+    for ty in types {
+        cells.push(fresh_cell(*ty, zero))?;
+    }
+    Ok(())
 }

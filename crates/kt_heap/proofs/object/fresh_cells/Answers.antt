@@ -14,6 +14,4 @@ repeated_more n cs = rw add-one (more n cs)
 pub loop-preserved : goal.loop-preserved
 loop-preserved c =
     let cells = map (fresh_cell c.args.zero) c.args.types.now in
-    let more = repeated_more c.loop.counter cells in
-    let element : c.as_slice.result.now ≡ cells = grind (arith, common_steps) in
-    c.in_ok-extend_from_slice.ensures.items ∙ rw (c.loop.invariant, element) more
+    c.in_ok-push_element.ensures ∙ rw c.loop.invariant (repeated_more c.loop.counter cells)

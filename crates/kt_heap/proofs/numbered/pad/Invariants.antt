@@ -1,6 +1,6 @@
 use Rattle.std.proofs.Common.{◌≡◌, ◌≤◌, ◌-◌, ℕ, length}
 use Rattle.kt_heap.specs.Objects.{held}
-use Rattle.kt_heap.proofs.slots.pad.Given as goal
+use Rattle.kt_heap.proofs.numbered.pad.Given as goal
 
 abbrev pub invariant-loop-items : goal.invariant-loop-items
 invariant-loop-items l =

@@ -2,7 +2,7 @@
 ghost use Rattle.std.specs.Prelude.{◌≡◌, ◌+◌, ◌<◌, ◌≤◌, ◌==◌, ℕ, List, [], ◌∷◌, ◌++◌, length, None, Some, IsOk, OnOk, OnErr, IfErr, if◌then◌else◌};
 ghost use Rattle.std.specs.Option.{option_map, option_copied};
 ghost use Rattle.kt_mem.specs.Memory.{value_in};
-ghost use Rattle.kt_heap.specs.Objects.{shown, obj_with, held, object_in};
+ghost use Rattle.kt_flat.specs.Objects.{shown, obj_with, held, object_in};
 
 use crate::object::Obj;
 use kt_mem::{Cell, Trap, Value};
@@ -18,7 +18,7 @@ pub struct Slots {
 
 impl Model for Slots {
     ghost use Rattle.std.specs.Prelude.{List, Option};
-    ghost use Rattle.kt_heap.specs.declared.object.Obj.{Obj};
+    ghost use Rattle.kt_flat.specs.declared.object.Obj.{Obj};
 
     ghost Value = { List (Option Obj) };
 

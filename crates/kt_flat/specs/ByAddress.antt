@@ -1,8 +1,8 @@
 -- Heap objects by address. An address is the heap number: below a first one stand the objects that were placed, from it
 -- on those that were allocated.
 use Rattle.std.specs.Prelude.{◌≡◌, ℕ, ◌+◌, ◌-◌, ◌==◌, ◌^◌, ◌<◌, nat_lt, List, length, Option, if◌then◌else◌}
-use Rattle.kt_heap.specs.declared.object.Obj.{Obj}
-use Rattle.kt_heap.specs.Objects.{held}
+use Rattle.kt_flat.specs.declared.object.Obj.{Obj}
+use Rattle.kt_flat.specs.Objects.{held}
 
 pub record ByAddress : Type 0 where
   pub first : ℕ

@@ -2,8 +2,8 @@
 ghost use Rattle.std.specs.Prelude.{◌≡◌, ◌+◌, ◌<◌, ℕ, [], ◌∷◌, length, None, Some, IsOk, OnOk, OnErr, IfErr};
 ghost use Rattle.std.specs.Option.{option_map, option_copied};
 ghost use Rattle.kt_mem.specs.Memory.{value_in};
-ghost use Rattle.kt_heap.specs.Objects.{shown, obj_with};
-ghost use Rattle.kt_heap.specs.ByAddress.{obj_at, next_address, IsPut, IsSame};
+ghost use Rattle.kt_flat.specs.Objects.{shown, obj_with};
+ghost use Rattle.kt_flat.specs.ByAddress.{obj_at, next_address, IsPut, IsSame};
 
 use crate::object::Obj;
 use crate::slots::Slots;
@@ -23,7 +23,7 @@ pub struct ByAddress {
 }
 
 impl Model for ByAddress {
-    ghost use Rattle.kt_heap.specs.ByAddress.{ByAddress as Objects, IsNarrow};
+    ghost use Rattle.kt_flat.specs.ByAddress.{ByAddress as Objects, IsNarrow};
 
     ghost Value = { Objects };
 

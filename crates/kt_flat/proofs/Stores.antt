@@ -1,0 +1,40 @@
+-- A store, and what is under the name after it.
+use Rattle.std.proofs.Common.{◌≡◌, ℕ, ◌==◌, cond, List, Option, None, Some, Ok, IsOk, refl, sym, ◌∙◌, ap}
+use Rattle.std.specs.Option.{option_map}
+use Rattle.kt_mem.specs.declared.memory.Name.{Name}
+use Rattle.kt_mem.specs.declared.memory.Name.TheVariants.{Glob, Heap}
+use Rattle.kt_mem.specs.declared.memory.Value.TheVariants.{Ptr}
+use Rattle.kt_mem.specs.Memory.{Memory, Object, Cell, put, value_in, store, object_with}
+use Rattle.kt_flat.specs.declared.object.Obj.{Obj}
+use Rattle.kt_flat.specs.Objects.{shown, obj_with, held, object_in}
+use Rattle.kt_flat.specs.ByAddress.{ByAddress, obj_at, next_address, IsPut}
+use Rattle.kt_flat.specs.Heap.{State, memory}
+use Rattle.kt_flat.specs.Inside.{IsHeap}
+use Rattle.kt_flat.proofs.Look.{memory_put, memory_glob}
+use Rattle.kt_flat.proofs.Acts.{store_ok, shown-with}
+
+-- a memory with a written cell, as the heap makes it
+written : (m : Memory) (n : Name) (k : ℕ) (c : Cell) (o : Option Obj) → m.at n ≡ option_map shown o → record m { at = put m.at n (option_map shown (option_map (obj_with k c) o)) } ≡ record m { at = put m.at n (option_map (object_with k c) (m.at n)) }
+written m n k c o e =
+    ap (λ (q : Option Object). record m { at = put m.at n q }) (shown-with k c o ∙ ap (option_map (object_with k c)) (sym e))
+
+-- a global's
+pub stored_glob : (s : State) (ys : List (Option Obj)) (i k : ℕ) (c : Cell) → ((j : ℕ) → held ys j ≡ cond (j == i) (option_map (obj_with k c) (held s.globals i)) (held s.globals j)) → IsOk (value_in (object_in s.globals i) k c.ty) → store (memory s) (Ptr (Glob i) k) c.ty c.value ≡ Ok (memory (record s { globals = ys }))
+unfolding memory
+stored_glob s ys i k c e there =
+    store_ok (memory s) (Glob i) k c.ty c.value refl there ∙ ap Ok (sym (memory_glob s ys i (option_map (obj_with k c) (held s.globals i)) e ∙ written (memory s) (Glob i) k c (held s.globals i) refl))
+
+-- a heap object's
+pub stored_heap : (s : State) (h : ByAddress) (a k : ℕ) (c : Cell) → next_address h ≡ next_address s.objects → IsPut s.objects h a (option_map (obj_with k c) (obj_at s.objects a)) → IsOk (value_in (option_map shown (obj_at s.objects a)) k c.ty) → store (memory s) (Ptr (Heap a) k) c.ty c.value ≡ Ok (memory (record s { objects = h }))
+unfolding memory
+stored_heap s h a k c next e there =
+    store_ok (memory s) (Heap a) k c.ty c.value refl there ∙ ap Ok (sym (memory_put s h s.used s.pairs a (option_map (obj_with k c) (obj_at s.objects a)) (next_address s.objects) s.used e next refl ∙ written (memory s) (Heap a) k c (obj_at s.objects a) refl))
+
+-- an object with another cell keeps its number
+pub number_with : (s : State) (a k : ℕ) (c : Cell) → IsHeap s → (x : Obj) → option_map (obj_with k c) (obj_at s.objects a) ≡ Some x → x.serial ≡ a
+number_with s a k c i x h = by_object (obj_at s.objects a) refl h
+  where
+    by_object : (o : Option Obj) → obj_at s.objects a ≡ o → option_map (obj_with k c) o ≡ Some x → x.serial ≡ a
+    by_object None e h = cc
+    by_object (Some y) e h =
+        let same : obj_with k c y ≡ x = cc in ap (λ (z : Obj). z.serial) (sym same) ∙ i.numbered a y e

@@ -1,0 +1,11 @@
+use Rattle.std.proofs.Common.{Some}
+use Rattle.kt_flat.specs.Heap.{memory}
+use Rattle.kt_flat.specs.Inside.{state_of}
+use Rattle.std.proofs.lemmas.Result.{on_ok_weaker}
+use Rattle.kt_flat.proofs.Look.{memory_lit}
+use Rattle.kt_flat.proofs.heap.Heap.set_literal.Goals as goal
+
+pub returns-clause-set : goal.returns-clause-set
+unfolding memory
+returns-clause-set c =
+    rw (← c.self.view_is) (on_ok_weaker c.set.result (memory_lit (state_of c.self.inside) c.set.new.self c.args.v c.args.i (Some c.args.obj)) c.set.ensures.ok)

@@ -1,0 +1,4 @@
+pub mod Objects
+pub mod ByAddress
+pub mod Heap
+pub mod Inside
