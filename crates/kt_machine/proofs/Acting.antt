@@ -20,9 +20,9 @@ use Rattle.kt_code.specs.declared.private.Head.{Head}
 use Rattle.kt_code.specs.declared.private.Head.TheVariants as head
 use Rattle.kt_code.specs.declared.private.Private.{Private}
 use Rattle.kt_pair.specs.Pair.{Pair}
-use Rattle.kt_world.specs.Job.{Job, types_at}
-use Rattle.kt_world.specs.Turn.{answered, acted, effect, elsewhere, ends, migrated, on_outcome}
-use Rattle.kt_world.specs.World.{Engine, Shared, Thread, World, outside_of, with_outside}
+use Rattle.kt_lone.specs.Job.{Job, types_at}
+use Rattle.kt_lone.specs.Turn.{answered, acted, effect, elsewhere, ends, migrated, on_outcome}
+use Rattle.kt_lone.specs.World.{Engine, Shared, Thread, World, outside_of, with_outside}
 use Rattle.kt_machine.specs.declared.machine.Machine.{Machine}
 use Rattle.kt_machine.specs.Acts.{MayReply, elsewhere_at, outcome_at, step_of}
 use Rattle.kt_machine.specs.Engine.{code_engine, code_step, thread_of, world_of}

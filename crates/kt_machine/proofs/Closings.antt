@@ -5,8 +5,8 @@ use Rattle.kt_mem.specs.declared.thread.Mode.TheVariants.{Updating}
 use Rattle.kt_tree.specs.Version.{Program}
 use Rattle.kt_code.specs.declared.private.Private.{Private}
 use Rattle.kt_pair.specs.Pair.{Pair}
-use Rattle.kt_world.specs.Update.{closed_between, decided, new_point, next_point, refused, updated, updating_from}
-use Rattle.kt_world.specs.World.{Engine, Live, Parked, Ended, Shared, Standing, Thread, World}
+use Rattle.kt_lone.specs.Update.{closed_between, decided, new_point, next_point, refused, updated, updating_from}
+use Rattle.kt_lone.specs.World.{Engine, Live, Parked, Ended, Shared, Standing, Thread, World}
 use Rattle.kt_code.specs.Settling as settling
 use Rattle.kt_code.specs.declared.private.Head.{Head}
 use Rattle.kt_machine.specs.declared.machine.Machine.{Machine}

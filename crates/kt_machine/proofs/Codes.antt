@@ -6,7 +6,7 @@ use Rattle.std.proofs.lemmas.List.{length-map}
 use Rattle.std.proofs.lemmas.Option.{slice_get-map, slice_get_within}
 use Rattle.kt_tree.specs.Version.{Program}
 use Rattle.kt_pair.specs.Pair.{Pair}
-use Rattle.kt_world.specs.Job.{Job, version_at, types_at, types_of}
+use Rattle.kt_lone.specs.Job.{Job, version_at, types_at, types_of}
 use Rattle.kt_machine.specs.Engine.{AreCodesOf}
 
 module _ (job : Job) (codes : List Pair) (are : AreCodesOf job codes) where

@@ -25,8 +25,8 @@ use Rattle.kt_code.specs.declared.private.Head.{Head}
 use Rattle.kt_code.specs.declared.private.Head.TheVariants as head
 use Rattle.kt_code.specs.declared.private.Private.{Private}
 use Rattle.kt_pair.specs.Pair.{Pair}
-use Rattle.kt_world.specs.Turn.{is_waiting}
-use Rattle.kt_world.specs.Update.{point_of, point_of_act}
+use Rattle.kt_lone.specs.Turn.{is_waiting}
+use Rattle.kt_lone.specs.Update.{point_of, point_of_act}
 use Rattle.kt_machine.specs.Acts.{waits_at}
 use Rattle.kt_machine.specs.Closing.{old_point}
 use Rattle.kt_machine.specs.Engine.{code_step}

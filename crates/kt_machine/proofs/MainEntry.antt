@@ -13,8 +13,8 @@ use Rattle.kt_code.specs.Settling.{Fits}
 use Rattle.kt_code.specs.declared.private.Private.{Private}
 use Rattle.kt_pair.specs.Pair.{Pair}
 use Rattle.kt_pair.specs.VersionActs.{DoesVersion, FitsEntries}
-use Rattle.kt_world.specs.Turn.{main_of, main_at, restart_in}
-use Rattle.kt_world.specs.TypedThreads.{main-place}
+use Rattle.kt_lone.specs.Turn.{main_of, main_at, restart_in}
+use Rattle.kt_lone.specs.TypedThreads.{main-place}
 use Rattle.kt_machine.specs.Engine.{code_entry, entry_at, entry_of}
 
 -- what `main_of` finds

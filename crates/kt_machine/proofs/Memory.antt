@@ -10,7 +10,7 @@ use Rattle.kt_mem.specs.declared.steps.Trap.{Trap}
 use Rattle.kt_mem.specs.declared.steps.Trap.TheVariants as trap
 use Rattle.kt_mem.specs.Memory.{Memory, Object, Cell, put, cell_value, value_in, value_at, and_then, written, with_value, unless_literal, store, release, released, without, made}
 use Rattle.kt_meaning.specs.Effects.{Shared, Replies, leaves, with_memory}
-use Rattle.kt_world.specs.Update.{or_same, placed_one, placed_from}
+use Rattle.kt_lone.specs.Update.{or_same, placed_one, placed_from}
 use Rattle.kt_machine.specs.Outside.{HasCharLiterals, KeepsLiterals, left_by, done}
 
 -- ---- literals

@@ -2,7 +2,7 @@
 use Rattle.std.proofs.Common.{◌≡◌, ℕ, zero, suc, ◌+◌, ◌<◌, List, [], ◌∷◌, length, take, Option, None, get_or, sym, ap, ◌∙◌, arith}
 use Rattle.kt_mem.specs.declared.memory.Value.{Value}
 use Rattle.kt_mem.specs.Memory.{Memory}
-use Rattle.kt_world.specs.Update.{placed, placed_from, placed_one}
+use Rattle.kt_lone.specs.Update.{placed, placed_from, placed_one}
 
 -- counted from i
 next : (kept : List (Option Value)) (i n : ℕ) (m : Memory) → n < length kept →

@@ -7,14 +7,14 @@ use Rattle.std.proofs.lemmas.List.{length-map}
 use Rattle.kt_meaning.specs.Thread as tree
 use Rattle.kt_code.specs.declared.private.Private.{Private}
 use Rattle.kt_pair.specs.Pair.{Pair}
-use Rattle.kt_world.specs.declared.mark.End.{End}
-use Rattle.kt_world.specs.declared.mark.Mark.{Mark}
-use Rattle.kt_world.specs.Job.{Job}
-use Rattle.kt_world.specs.Laws.{AreTurnsOf}
-use Rattle.kt_world.specs.Turn.{is_live, enabled_as, turn, first_world, world_from, world, tree_engine, MayTurn, MayTurnAll}
-use Rattle.kt_world.specs.Typed.{IsTypedJob}
-use Rattle.kt_world.specs.TypedWorlds.{settled-IsTypedWorld, world-settled}
-use Rattle.kt_world.specs.World.{Shared, World}
+use Rattle.kt_lone.specs.declared.mark.End.{End}
+use Rattle.kt_lone.specs.declared.mark.Mark.{Mark}
+use Rattle.kt_lone.specs.Job.{Job}
+use Rattle.kt_lone.specs.Laws.{AreTurnsOf}
+use Rattle.kt_lone.specs.Turn.{is_live, enabled_as, turn, first_world, world_from, world, tree_engine, MayTurn, MayTurnAll}
+use Rattle.kt_lone.specs.Typed.{IsTypedJob}
+use Rattle.kt_lone.specs.TypedWorlds.{settled-IsTypedWorld, world-settled}
+use Rattle.kt_lone.specs.World.{Shared, World}
 use Rattle.kt_machine.specs.declared.machine.Machine.{Machine}
 use Rattle.kt_machine.specs.declared.machine.Standing as declared
 use Rattle.kt_machine.specs.declared.machine.Standing.TheVariants as standing

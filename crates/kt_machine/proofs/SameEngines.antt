@@ -25,12 +25,12 @@ use Rattle.kt_code.specs.Looks.{code_threads, tree_threads}
 use Rattle.kt_code.specs.Settling as settling
 use Rattle.kt_code.specs.declared.private.Private.{Private}
 use Rattle.kt_pair.specs.Pair.{Pair}
-use Rattle.kt_world.specs.Job.{Job, version_at}
-use Rattle.kt_world.specs.Turn.{main_at, restart_in, tree_entry_of, tree_entry, tree_settle, tree_step, tree_engine}
-use Rattle.kt_world.specs.Typed.{IsTypedJob}
-use Rattle.kt_world.specs.TypedThreads.{IsProgramIf, IsModeIf, main-place}
-use Rattle.kt_world.specs.Update.{point_of_act, point_of}
-use Rattle.kt_world.specs.World.{Standing, Live, Parked, Ended}
+use Rattle.kt_lone.specs.Job.{Job, version_at}
+use Rattle.kt_lone.specs.Turn.{main_at, restart_in, tree_entry_of, tree_entry, tree_settle, tree_step, tree_engine}
+use Rattle.kt_lone.specs.Typed.{IsTypedJob}
+use Rattle.kt_lone.specs.TypedThreads.{IsProgramIf, IsModeIf, main-place}
+use Rattle.kt_lone.specs.Update.{point_of_act, point_of}
+use Rattle.kt_lone.specs.World.{Standing, Live, Parked, Ended}
 use Rattle.kt_machine.specs.Engine.{entry_at, entry_of, code_entry, code_settle, code_step, code_engine, DoesActs, AreCodesOf}
 use Rattle.kt_machine.specs.Same.{IsSameMode, IsSameState, IsSameBy}
 use Rattle.kt_machine.proofs.SameStates.{head-same, in-one-mode, settled-IsSameIn, replied-IsSameIn}

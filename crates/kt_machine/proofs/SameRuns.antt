@@ -20,13 +20,13 @@ use Rattle.kt_code.specs.declared.private.Head.{Head}
 use Rattle.kt_code.specs.declared.private.Head.TheVariants as head
 use Rattle.kt_code.specs.declared.private.Private.{Private}
 use Rattle.kt_pair.specs.Pair.{Pair}
-use Rattle.kt_world.specs.Job.{Job, version_at, types_at, types_of}
-use Rattle.kt_world.specs.Laws.{AreTurnsOf}
-use Rattle.kt_world.specs.Turn.{has_ended, is_enabled, turn, first_world, world, world_from, MayTurn, MayTurnAll, tree_step, tree_engine}
-use Rattle.kt_world.specs.Typed.{IsTypedJob, IsTypedWorld, IsThreadOf, IsTypedThread}
-use Rattle.kt_world.specs.TypedThreads.{IsProgramIf}
-use Rattle.kt_world.specs.TypedWorlds.{IsSettledWorld, first_world-settled, turn-settled}
-use Rattle.kt_world.specs.World.{Live, Shared, Thread, World, outside_of}
+use Rattle.kt_lone.specs.Job.{Job, version_at, types_at, types_of}
+use Rattle.kt_lone.specs.Laws.{AreTurnsOf}
+use Rattle.kt_lone.specs.Turn.{has_ended, is_enabled, turn, first_world, world, world_from, MayTurn, MayTurnAll, tree_step, tree_engine}
+use Rattle.kt_lone.specs.Typed.{IsTypedJob, IsTypedWorld, IsThreadOf, IsTypedThread}
+use Rattle.kt_lone.specs.TypedThreads.{IsProgramIf}
+use Rattle.kt_lone.specs.TypedWorlds.{IsSettledWorld, first_world-settled, turn-settled}
+use Rattle.kt_lone.specs.World.{Live, Shared, Thread, World, outside_of}
 use Rattle.kt_machine.specs.declared.machine.Machine.{Machine}
 use Rattle.kt_machine.specs.declared.machine.Standing.TheVariants as standing
 use Rattle.kt_machine.specs.Engine.{code_step, code_engine, AreCodesOf, standing_of, thread_of, world_of, IsSettled, IsCompleteHead, IsReady}

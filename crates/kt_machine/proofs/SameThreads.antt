@@ -11,11 +11,11 @@ use Rattle.kt_mem.specs.declared.thread.Mode.{Mode}
 use Rattle.kt_mem.specs.Memory.{Memory}
 use Rattle.kt_meaning.specs.Steps.{Step, Acts, Traps, Ends, after_reply}
 use Rattle.kt_code.specs.Agreement.{IsReplyTo, SameHead}
-use Rattle.kt_world.specs.Job.{Job, version_at}
-use Rattle.kt_world.specs.Turn.{is_live, is_turnable, is_waiting, enabled_as, enabled_if, any_enabled, is_normal, main_is_normal, has_ended, all_normal, all_parked}
-use Rattle.kt_world.specs.TypedThreads.{IsModeIf}
-use Rattle.kt_world.specs.Update.{point_of_act, point_of}
-use Rattle.kt_world.specs.World.{Engine, Standing, Live, Parked, Ended, Shared, Thread}
+use Rattle.kt_lone.specs.Job.{Job, version_at}
+use Rattle.kt_lone.specs.Turn.{is_live, is_turnable, is_waiting, enabled_as, enabled_if, any_enabled, is_normal, main_is_normal, has_ended, all_normal, all_parked}
+use Rattle.kt_lone.specs.TypedThreads.{IsModeIf}
+use Rattle.kt_lone.specs.Update.{point_of_act, point_of}
+use Rattle.kt_lone.specs.World.{Engine, Standing, Live, Parked, Ended, Shared, Thread}
 use Rattle.kt_machine.specs.Same.{IsSameThread, AreSameThreads}
 
 -- in each version the engines keep a relation of states

@@ -18,15 +18,15 @@ use Rattle.kt_meaning.specs.Laws.{IsShared, IsOutcomeOf}
 use Rattle.kt_meaning.specs.Steps.{Step, Acts, Traps, Ends}
 use Rattle.kt_meaning.proofs.EffectTypes.{effect-IsOutcomeOf}
 use Rattle.kt_code.specs.Agreement.{IsReplyTo, SameHead}
-use Rattle.kt_world.specs.declared.mark.End.TheVariants as end
-use Rattle.kt_world.specs.declared.mark.Phase.{Phase}
-use Rattle.kt_world.specs.declared.mark.Phase.TheVariants.{Run, Asked, Main, Others}
-use Rattle.kt_world.specs.Job.{Job, version_at, types_at}
-use Rattle.kt_world.specs.SharedLaws.{with_mark-keeps, asked-keeps, spent-keeps}
-use Rattle.kt_world.specs.Turn.{answered, at_point, migrated, elsewhere, on_outcome, ends, effect, act_of, acted, is_enabled, enabled_if, any_enabled, ongoing, on_shared, with_mark, main_is_normal, all_normal, all_parked, main_there, all_back, closed_up, asked, stuck, spent, before_turn, after_act, turn, start, first_world, MayTurn}
-use Rattle.kt_world.specs.TypedThreads.{IsModeIf}
-use Rattle.kt_world.specs.Update.{point_of}
-use Rattle.kt_world.specs.World.{Engine, Standing, Live, Shared, Thread, World, outside_of, with_outside}
+use Rattle.kt_lone.specs.declared.mark.End.TheVariants as end
+use Rattle.kt_lone.specs.declared.mark.Phase.{Phase}
+use Rattle.kt_lone.specs.declared.mark.Phase.TheVariants.{Run, Asked, Main, Others}
+use Rattle.kt_lone.specs.Job.{Job, version_at, types_at}
+use Rattle.kt_lone.specs.SharedLaws.{with_mark-keeps, asked-keeps, spent-keeps}
+use Rattle.kt_lone.specs.Turn.{answered, at_point, migrated, elsewhere, on_outcome, ends, effect, act_of, acted, is_enabled, enabled_if, any_enabled, ongoing, on_shared, with_mark, main_is_normal, all_normal, all_parked, main_there, all_back, closed_up, asked, stuck, spent, before_turn, after_act, turn, start, first_world, MayTurn}
+use Rattle.kt_lone.specs.TypedThreads.{IsModeIf}
+use Rattle.kt_lone.specs.Update.{point_of}
+use Rattle.kt_lone.specs.World.{Engine, Standing, Live, Shared, Thread, World, outside_of, with_outside}
 use Rattle.kt_machine.specs.Same.{IsSameThread, AreSameThreads, AreSameWorlds}
 use Rattle.kt_machine.proofs.SameThreads.{AreSameEngines, AreSameFound, slice_get-same, slice_set-same, all_normal-same, all_parked-same, main_is_normal-same, enabled_if-same, any_enabled-same, enabled-live}
 use Rattle.kt_machine.proofs.SameUpdates.{chosen-same, closing-same}

@@ -4,11 +4,11 @@ use Rattle.std.proofs.Common.{sym, subst, ap, ◌∙◌}
 use Rattle.kt_mem.specs.declared.steps.Reply.TheVariants.{Done}
 use Rattle.kt_tree.specs.Version.{Program}
 use Rattle.kt_meaning.specs.ThreadTypes.{IsMode}
-use Rattle.kt_world.specs.Job.{Job, version_at}
-use Rattle.kt_world.specs.Turn.{is_live, all_parked}
-use Rattle.kt_world.specs.TypedThreads.{IsModeIf, next-mode}
-use Rattle.kt_world.specs.Update.{new_point, next_point, is_lost, lost_point, let_go, updating_from, restarted, decided, closed_between, closing}
-use Rattle.kt_world.specs.World.{Engine, Standing, Live, Parked, Ended, Shared, Thread, World}
+use Rattle.kt_lone.specs.Job.{Job, version_at}
+use Rattle.kt_lone.specs.Turn.{is_live, all_parked}
+use Rattle.kt_lone.specs.TypedThreads.{IsModeIf, next-mode}
+use Rattle.kt_lone.specs.Update.{new_point, next_point, is_lost, lost_point, let_go, updating_from, restarted, decided, closed_between, closing}
+use Rattle.kt_lone.specs.World.{Engine, Standing, Live, Parked, Ended, Shared, Thread, World}
 use Rattle.kt_machine.specs.Same.{IsSameThread, AreSameThreads, AreSameWorlds}
 use Rattle.kt_machine.proofs.SameThreads.{AreSameEngines, point_of-same, map-same}
 

@@ -8,11 +8,11 @@ use Rattle.kt_code.specs.declared.private.Head.{Head}
 use Rattle.kt_code.specs.declared.private.Private.{Private}
 use Rattle.kt_flat.specs.Heap as heap
 use Rattle.kt_pair.specs.Pair.{Pair}
-use Rattle.kt_world.specs.declared.mark.Phase.TheVariants.{Run}
-use Rattle.kt_world.specs.Job.{Job, version_at}
-use Rattle.kt_world.specs.Turn.{memory_if, start}
-use Rattle.kt_world.specs.Update.{first_memory}
-use Rattle.kt_world.specs.World.{Live, Shared, World}
+use Rattle.kt_lone.specs.declared.mark.Phase.TheVariants.{Run}
+use Rattle.kt_lone.specs.Job.{Job, version_at}
+use Rattle.kt_lone.specs.Turn.{memory_if, start}
+use Rattle.kt_lone.specs.Update.{first_memory}
+use Rattle.kt_lone.specs.World.{Live, Shared, World}
 use Rattle.kt_machine.specs.declared.machine.Standing.TheVariants as standing
 use Rattle.kt_machine.specs.Engine.{code_engine, code_entry, code_settle, world_of, AreCodesOf}
 use Rattle.kt_machine.specs.Outside.{Outside}

@@ -2,13 +2,13 @@
 use Rattle.std.specs.Prelude.{◌≡◌, List, [], ◌∷◌, Bool, true, false, Option, None, is_none, if◌then◌else◌}
 use Rattle.std.proofs.Common.{sym, ap, ◌∙◌}
 use Rattle.kt_pair.specs.Pair.{Pair}
-use Rattle.kt_world.specs.declared.mark.End.{End}
-use Rattle.kt_world.specs.declared.mark.Mark.TheVariants as mark
-use Rattle.kt_world.specs.declared.mark.Phase.{Phase}
-use Rattle.kt_world.specs.declared.mark.Phase.TheVariants.{Run, Others}
-use Rattle.kt_world.specs.Turn.{all_back, all_normal, on_shared, ongoing}
-use Rattle.kt_world.specs.Update.{marked}
-use Rattle.kt_world.specs.World.{Shared, World}
+use Rattle.kt_lone.specs.declared.mark.End.{End}
+use Rattle.kt_lone.specs.declared.mark.Mark.TheVariants as mark
+use Rattle.kt_lone.specs.declared.mark.Phase.{Phase}
+use Rattle.kt_lone.specs.declared.mark.Phase.TheVariants.{Run, Others}
+use Rattle.kt_lone.specs.Turn.{all_back, all_normal, on_shared, ongoing}
+use Rattle.kt_lone.specs.Update.{marked}
+use Rattle.kt_lone.specs.World.{Shared, World}
 use Rattle.kt_machine.specs.declared.machine.Machine.{Machine}
 use Rattle.kt_machine.specs.Engine.{code_engine, thread_of, world_of}
 use Rattle.kt_machine.specs.Shared.{shared_of}

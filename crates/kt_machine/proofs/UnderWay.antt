@@ -13,15 +13,15 @@ use Rattle.kt_tree.specs.Version.{Program}
 use Rattle.kt_meaning.specs.Effects as outside
 use Rattle.kt_meaning.specs.Effects.{Outcome, Replies, Waits, Elsewhere}
 use Rattle.kt_meaning.specs.Steps.{Step, Quiet, Acts, Traps, Ends}
-use Rattle.kt_world.specs.declared.mark.End.{End}
-use Rattle.kt_world.specs.declared.mark.End.TheVariants as end
-use Rattle.kt_world.specs.declared.mark.Phase.{Phase}
-use Rattle.kt_world.specs.declared.mark.Phase.TheVariants.{Run, Asked, Main, Others}
-use Rattle.kt_world.specs.Job.{Job, version_at, types_at}
-use Rattle.kt_world.specs.World.{Engine, Shared, Thread, World, outside_of, with_outside}
-use Rattle.kt_world.specs.Update.{lost_point, decided, closed_between, closing}
-use Rattle.kt_world.specs.Turn.{answered, at_point, migrated, elsewhere, on_outcome, ends, effect, act_of, acted, counted, any_enabled, ongoing, on_shared, with_mark, ended_as, main_is_normal, all_normal, all_parked, main_there, all_back, closed_up, request, asked, stuck, spent, before_turn, after_act, turn, start, first_world, world_from, MayTurnAll}
-use Rattle.kt_world.specs.Kept.{IsKept, first_world-keeps, world_from-keeps}
+use Rattle.kt_lone.specs.declared.mark.End.{End}
+use Rattle.kt_lone.specs.declared.mark.End.TheVariants as end
+use Rattle.kt_lone.specs.declared.mark.Phase.{Phase}
+use Rattle.kt_lone.specs.declared.mark.Phase.TheVariants.{Run, Asked, Main, Others}
+use Rattle.kt_lone.specs.Job.{Job, version_at, types_at}
+use Rattle.kt_lone.specs.World.{Engine, Shared, Thread, World, outside_of, with_outside}
+use Rattle.kt_lone.specs.Update.{lost_point, decided, closed_between, closing}
+use Rattle.kt_lone.specs.Turn.{answered, at_point, migrated, elsewhere, on_outcome, ends, effect, act_of, acted, counted, any_enabled, ongoing, on_shared, with_mark, ended_as, main_is_normal, all_normal, all_parked, main_there, all_back, closed_up, request, asked, stuck, spent, before_turn, after_act, turn, start, first_world, world_from, MayTurnAll}
+use Rattle.kt_lone.specs.Kept.{IsKept, first_world-keeps, world_from-keeps}
 
 -- ---- acts
 

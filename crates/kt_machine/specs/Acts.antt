@@ -13,8 +13,8 @@ use Rattle.kt_code.specs.declared.private.Head.{Head}
 use Rattle.kt_code.specs.declared.private.Head.TheVariants as head
 use Rattle.kt_code.specs.declared.private.Private.{Private}
 use Rattle.kt_pair.specs.Pair.{Pair}
-use Rattle.kt_world.specs.Turn.{elsewhere, ends}
-use Rattle.kt_world.specs.World.{Engine, Thread, World}
+use Rattle.kt_lone.specs.Turn.{elsewhere, ends}
+use Rattle.kt_lone.specs.World.{Engine, Thread, World}
 use Rattle.kt_machine.specs.declared.machine.Machine.{Machine}
 use Rattle.kt_machine.specs.Engine.{code_step}
 

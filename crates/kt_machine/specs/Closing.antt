@@ -4,8 +4,8 @@ use Rattle.kt_mem.specs.declared.thread.Mode.TheVariants.{Updating}
 use Rattle.kt_tree.specs.Version.{Program}
 use Rattle.kt_code.specs.declared.private.Head.{Head}
 use Rattle.kt_code.specs.declared.private.Head.TheVariants as head
-use Rattle.kt_world.specs.Update.{point_of_act, updated}
-use Rattle.kt_world.specs.World.{Engine, Live, World}
+use Rattle.kt_lone.specs.Update.{point_of_act, updated}
+use Rattle.kt_lone.specs.World.{Engine, Live, World}
 
 -- the point at which a thread with this head stands
 abbrev pub old_point : Head → Option ℕ

@@ -16,10 +16,10 @@ use Rattle.kt_code.specs.declared.private.Head.TheVariants as head
 use Rattle.kt_code.specs.declared.private.Private.{Private}
 use Rattle.kt_pair.specs.Pair.{Pair}
 use Rattle.kt_pair.specs.VersionActs.{DoesVersion, FitsEntries, entry_state}
-use Rattle.kt_world.specs.Job.{Job, types_at}
-use Rattle.kt_world.specs.Turn.{has_ended, main_of, restart_in}
-use Rattle.kt_world.specs.World.{Engine, Standing, Thread, World, outside_of}
-use Rattle.kt_world.specs.World as world
+use Rattle.kt_lone.specs.Job.{Job, types_at}
+use Rattle.kt_lone.specs.Turn.{has_ended, main_of, restart_in}
+use Rattle.kt_lone.specs.World.{Engine, Standing, Thread, World, outside_of}
+use Rattle.kt_lone.specs.World as world
 use Rattle.kt_machine.specs.declared.machine.Machine.{Machine}
 use Rattle.kt_machine.specs.declared.machine.Standing as declared
 use Rattle.kt_machine.specs.declared.machine.Standing.TheVariants as standing

@@ -1,9 +1,9 @@
 -- What a run of one thread did: so many turns of thread 0, how it ended, its output, and the journal's marks.
 use Rattle.std.specs.Prelude.{◌≡◌, ℕ, ◌<◌, ◌≤◌, List, length, replicate}
-use Rattle.kt_world.specs.declared.mark.End.{End}
-use Rattle.kt_world.specs.declared.mark.Mark.{Mark}
-use Rattle.kt_world.specs.Job.{Job}
-use Rattle.kt_world.specs.Turn.{world, IsComplete}
+use Rattle.kt_lone.specs.declared.mark.End.{End}
+use Rattle.kt_lone.specs.declared.mark.Mark.{Mark}
+use Rattle.kt_lone.specs.Job.{Job}
+use Rattle.kt_lone.specs.Turn.{world, IsComplete}
 
 pub record HasRun (job : Job) (turns : ℕ) (how : End) (output : List ℕ) (marks : List Mark) : Type 0 where
   pub complete : IsComplete job (replicate turns 0) how

@@ -11,8 +11,8 @@ use Rattle.kt_code.specs.Machine as code
 use Rattle.kt_code.specs.Settling.{Fits}
 use Rattle.kt_code.specs.declared.private.Private.{Private}
 use Rattle.kt_pair.specs.Pair.{Pair}
-use Rattle.kt_world.specs.Update.{point_of}
-use Rattle.kt_world.specs.World.{Standing, Live, Parked, Ended, Thread, World}
+use Rattle.kt_lone.specs.Update.{point_of}
+use Rattle.kt_lone.specs.World.{Standing, Live, Parked, Ended, Thread, World}
 
 -- ---- over any relation of states, by version and standing
 

@@ -2,10 +2,10 @@
 use Rattle.std.specs.Prelude.{ℕ, List, Option}
 use Rattle.kt_mem.specs.declared.memory.Value.{Value}
 use Rattle.kt_flat.specs.Heap.{memory}
-use Rattle.kt_world.specs.declared.mark.End.{End}
-use Rattle.kt_world.specs.declared.mark.Mark.{Mark}
-use Rattle.kt_world.specs.declared.mark.Phase.{Phase}
-use Rattle.kt_world.specs.World as world
+use Rattle.kt_lone.specs.declared.mark.End.{End}
+use Rattle.kt_lone.specs.declared.mark.Mark.{Mark}
+use Rattle.kt_lone.specs.declared.mark.Phase.{Phase}
+use Rattle.kt_lone.specs.World as world
 use Rattle.kt_machine.specs.Outside.{Outside}
 
 pub record Shared : Type 0 where

@@ -4,12 +4,12 @@ use crate::effects::Outcome;
 use crate::machine::{Machine, Standing, in_force};
 use kt_code::{Code, Head};
 use kt_exec::{answer, settle};
+use kt_lone::job::Job;
+use kt_lone::mark::{End, Phase};
 use kt_meaning::effect_law;
 use kt_mem::{Act, Mode, Reply, Trap};
 use kt_pair::Compiled;
 use kt_types::TypeTable;
-use kt_world::job::Job;
-use kt_world::mark::{End, Phase};
 use std::alloc::{AllocError, Global};
 
 impl Machine {
@@ -18,8 +18,8 @@ impl Machine {
     ghost use Rattle.kt_code.specs.Agreement.{IsReplyTo};
     ghost use Rattle.kt_code.specs.Machine.{step};
     ghost use Rattle.kt_code.specs.Settling as settling;
-    ghost use Rattle.kt_world.specs.Plain.{job_of};
-    ghost use Rattle.kt_world.specs.Turn as plain_turn;
+    ghost use Rattle.kt_lone.specs.Plain.{job_of};
+    ghost use Rattle.kt_lone.specs.Turn as plain_turn;
     ghost use Rattle.kt_machine.specs.Acts.{KeepsPlace, MayReply, elsewhere_at, outcome_at, step_of};
     ghost use Rattle.kt_machine.specs.Engine.{code_engine, thread_of, world_of, AreCodesOf, IsCompleteHead, IsPointHead, IsReady, IsSettled, StandsAt};
     ghost use Rattle.kt_machine.specs.Outside.{outcome_of, shown};

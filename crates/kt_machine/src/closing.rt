@@ -1,29 +1,29 @@
 //! The closing: the update, or its refusal.
 
 ghost use Rattle.std.specs.Prelude.{◌≡◌, MatchOption, None, Some};
-ghost use Rattle.kt_world.specs.Job as plain_job;
-ghost use Rattle.kt_world.specs.Plain.{job_of};
+ghost use Rattle.kt_lone.specs.Job as plain_job;
+ghost use Rattle.kt_lone.specs.Plain.{job_of};
 
 use crate::entry::settled_main;
 use crate::first_heap::first_heap;
 use crate::globals::{kept_values, new_point};
 use crate::machine::{Machine, Standing, in_force};
 use kt_code::{Head, Private};
+use kt_lone::job::Job;
+use kt_lone::mark::Phase;
 use kt_mem::{Act, Mode, Reply};
 use kt_pair::Compiled;
 use kt_tree::Version;
-use kt_world::job::Job;
-use kt_world::mark::Phase;
 use std::alloc::{AllocError, Global};
 
 impl Machine {
     ghost use Rattle.std.specs.Prelude.{◌≡◌, ◌+◌, ◌<◌, ◌≤◌, false, length, Some, slice_get, IfSome, OnOk, option_and_then};
     ghost use Rattle.kt_meaning.specs.ThreadTypes.{IsMode};
-    ghost use Rattle.kt_world.specs.Plain.{job_of};
-    ghost use Rattle.kt_world.specs.Job as plain_job;
-    ghost use Rattle.kt_world.specs.Turn as plain_turn;
-    ghost use Rattle.kt_world.specs.Update as plain;
-    ghost use Rattle.kt_world.specs.World as plain_world;
+    ghost use Rattle.kt_lone.specs.Plain.{job_of};
+    ghost use Rattle.kt_lone.specs.Job as plain_job;
+    ghost use Rattle.kt_lone.specs.Turn as plain_turn;
+    ghost use Rattle.kt_lone.specs.Update as plain;
+    ghost use Rattle.kt_lone.specs.World as plain_world;
     ghost use Rattle.kt_machine.specs.Acts.{step_of};
     ghost use Rattle.kt_machine.specs.Closing.{old_point, with_restart};
     ghost use Rattle.kt_machine.specs.Engine.{code_engine, code_entry, code_settle, standing_of, thread_of, world_of, AreCodesOf, IsSettled};

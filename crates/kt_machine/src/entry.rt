@@ -6,7 +6,7 @@ ghost use Rattle.kt_meaning.specs.ThreadTypes.{IsMode};
 ghost use Rattle.kt_code.specs.Machine.{step};
 ghost use Rattle.kt_code.specs.Settling.{Fits, head_of, settle};
 ghost use Rattle.kt_pair.specs.VersionActs.{entry_state};
-ghost use Rattle.kt_world.specs.Turn.{main_of, restart_in};
+ghost use Rattle.kt_lone.specs.Turn.{main_of, restart_in};
 ghost use Rattle.kt_machine.specs.Engine.{code_entry, no_frames};
 
 use kt_code::{Frame, Frames, Head, Locals, Operands, Private};

@@ -1,7 +1,7 @@
 //! The heap with which a version begins.
 ghost use Rattle.std.specs.Prelude.{◌≡◌, [], IfOk, OnOk};
 ghost use Rattle.kt_flat.specs.Heap.{memory, given};
-ghost use Rattle.kt_world.specs.Update.{first_memory};
+ghost use Rattle.kt_lone.specs.Update.{first_memory};
 ghost use Rattle.kt_machine.specs.Outside.{HasCharLiterals};
 
 use crate::first_objects::{global_object, literal_object};

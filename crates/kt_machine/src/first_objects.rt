@@ -3,7 +3,7 @@ ghost use Rattle.std.specs.Prelude.{◌≡◌, ◌*◌, ◌++◌, ◌≤◌, [],
 ghost use Rattle.kt_types.specs.Layout.{cells, IsComplete};
 ghost use Rattle.kt_mem.specs.Memory as mem;
 ghost use Rattle.kt_flat.specs.Objects.{shown};
-ghost use Rattle.kt_world.specs.Update as plain;
+ghost use Rattle.kt_lone.specs.Update as plain;
 
 use kt_flat::Obj;
 use kt_mem::{Cell, Cells, Name, Value};

@@ -1,8 +1,8 @@
 //! The machine: it takes the turns of thread 0.
 
 ghost use Rattle.std.specs.Prelude.{◌≡◌, ◌<◌, IfOk, Ok, Some, length, slice_get};
-ghost use Rattle.kt_world.specs.Plain.{job_of};
-ghost use Rattle.kt_world.specs.Turn as plain_turn;
+ghost use Rattle.kt_lone.specs.Plain.{job_of};
+ghost use Rattle.kt_lone.specs.Turn as plain_turn;
 ghost use Rattle.kt_machine.specs.Engine.{code_engine, world_of, AreCodesOf, IsSettled};
 
 use crate::entry::settled_main;
@@ -10,10 +10,10 @@ use crate::first_heap::first_heap;
 use crate::outside::Outside;
 use crate::shared::Shared;
 use kt_code::{Head, Private};
+use kt_lone::job::Job;
+use kt_lone::mark::{End, Mark};
 use kt_mem::Mode;
 use kt_pair::Compiled;
-use kt_world::job::Job;
-use kt_world::mark::{End, Mark};
 use std::alloc::{AllocError, Global};
 
 /// Whether the thread takes turns.
@@ -44,8 +44,8 @@ pub(crate) fn in_force(codes: &[Compiled], version: u8) -> &Compiled
 
 impl Machine {
     ghost use Rattle.std.specs.Prelude.{◌≡◌, ◌<◌, ◌≤◌, ◌^◌, length, IfOk, OnOk};
-    ghost use Rattle.kt_world.specs.Plain.{job_of};
-    ghost use Rattle.kt_world.specs.Turn as plain_turn;
+    ghost use Rattle.kt_lone.specs.Plain.{job_of};
+    ghost use Rattle.kt_lone.specs.Turn as plain_turn;
     ghost use Rattle.kt_machine.specs.Acts.{KeepsPlace};
     ghost use Rattle.kt_machine.specs.Engine.{code_engine, world_of, AreCodesOf, IsReady, IsSettled};
 

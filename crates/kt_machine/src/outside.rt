@@ -42,7 +42,7 @@ impl Outside {
     ghost use Rattle.kt_mem.specs.Memory as mem;
     ghost use Rattle.kt_types.specs.Layout.{cells, layout};
     ghost use Rattle.kt_machine.specs.Outside.{done, given, outcome_of, shown, HasCharLiterals};
-    ghost use Rattle.kt_world.specs.Update.{placed};
+    ghost use Rattle.kt_lone.specs.Update.{placed};
 
     /// This heap and this input, and no output.
     pub fn new(alloc: Global, heap: Heap, input: Vec<u8>) -> Outside

@@ -1,16 +1,16 @@
 //! What threads share: the version in force, memory, input and output, the phase of the update and the journal's marks.
 
 ghost use Rattle.std.specs.Prelude.{◌≡◌, is_some};
-ghost use Rattle.kt_world.specs.Job.{version_at};
-ghost use Rattle.kt_world.specs.Plain.{job_of};
+ghost use Rattle.kt_lone.specs.Job.{version_at};
+ghost use Rattle.kt_lone.specs.Plain.{job_of};
 
 use crate::effects::{Outcome, effect};
 use crate::outside::Outside;
 use kt_flat::Heap;
+use kt_lone::job::Job;
+use kt_lone::mark::{Closed, End, Mark, Phase};
 use kt_mem::{Act, Value};
 use kt_types::TypeTable;
-use kt_world::job::Job;
-use kt_world::mark::{Closed, End, Mark, Phase};
 use std::alloc::{AllocError, Global};
 use std::marker::Model;
 
@@ -55,9 +55,9 @@ impl Shared {
     ghost use Rattle.kt_meaning.specs.Effects as plain;
     ghost use Rattle.kt_machine.specs.Outside.{outcome_of, shown, HasCharLiterals, IsComplete};
     ghost use Rattle.kt_machine.specs.Shared.{shared_of};
-    ghost use Rattle.kt_world.specs.Plain.{job_of};
-    ghost use Rattle.kt_world.specs.Turn.{asked, ended_as, request, spent, with_mark};
-    ghost use Rattle.kt_world.specs.Update.{marked, placed};
+    ghost use Rattle.kt_lone.specs.Plain.{job_of};
+    ghost use Rattle.kt_lone.specs.Turn.{asked, ended_as, request, spent, with_mark};
+    ghost use Rattle.kt_lone.specs.Update.{marked, placed};
 
     /// Before the first turn of a run: this heap and this input, and requests after these numbers of turns.
     pub fn new(alloc: Global, outside: Outside, after: Vec<u32>) -> Shared

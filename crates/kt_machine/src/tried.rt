@@ -8,17 +8,17 @@ ghost use Rattle.kt_machine.specs.Acts.{waits_at};
 use crate::machine::{Machine, Standing};
 use kt_code::Head;
 use kt_flat::Heap;
+use kt_lone::job::Job;
+use kt_lone::mark::Phase;
 use kt_mem::{Act, Mode, Value};
 use kt_pair::Compiled;
 use kt_types::Ty;
-use kt_world::job::Job;
-use kt_world::mark::Phase;
 use std::alloc::{AllocError, Global};
 
 impl Machine {
     ghost use Rattle.std.specs.Prelude.{◌≡◌, ◌<◌, ◌≤◌, length, OnOk};
-    ghost use Rattle.kt_world.specs.Plain.{job_of};
-    ghost use Rattle.kt_world.specs.Turn as plain_turn;
+    ghost use Rattle.kt_lone.specs.Plain.{job_of};
+    ghost use Rattle.kt_lone.specs.Turn as plain_turn;
     ghost use Rattle.kt_flat.specs.Heap.{memory};
     ghost use Rattle.kt_machine.specs.Acts.{KeepsThread, step_of};
     ghost use Rattle.kt_machine.specs.Engine.{code_engine, thread_of, world_of, AreCodesOf, IsSettled};

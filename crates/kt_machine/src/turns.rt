@@ -1,15 +1,15 @@
 //! Takes the turns of a job, from its first to its end.
 
 ghost use Rattle.std.specs.Prelude.{◌≡◌, IfOk};
-ghost use Rattle.kt_world.specs.Plain.{job_of};
-ghost use Rattle.kt_world.specs.Typed.{IsTypedJob};
+ghost use Rattle.kt_lone.specs.Plain.{job_of};
+ghost use Rattle.kt_lone.specs.Typed.{IsTypedJob};
 ghost use Rattle.kt_machine.specs.Engine.{AreCodesOf};
 ghost use Rattle.kt_machine.specs.Report.{HasRun, IsWellFormedJob};
 
 use crate::machine::Machine;
+use kt_lone::job::Job;
+use kt_lone::mark::{End, Mark};
 use kt_pair::Compiled;
-use kt_world::job::Job;
-use kt_world::mark::{End, Mark};
 use std::alloc::{AllocError, Global};
 
 /// What a run did: all of its turns are of thread 0.

@@ -2,8 +2,8 @@
 use Rattle.std.specs.Prelude.{◌≡◌, ℕ, ◌<◌, ◌⊎◌, List, length, Option, Some, IfSome, Result, Ok, Err}
 use Rattle.std.proofs.Common.{inl, inr, subst, sym, ap, ◌∙◌, arith}
 use Rattle.kt_syntax.specs.Answer.{OneAnswer}
-use Rattle.kt_world.specs.declared.mark.End.{End}
-use Rattle.kt_world.specs.Job.{Job}
+use Rattle.kt_lone.specs.declared.mark.End.{End}
+use Rattle.kt_lone.specs.Job.{Job}
 use Rattle.kt_play.specs.declared.refusal.Refusal.{Refusal}
 use Rattle.kt_play.specs.declared.refusal.Refusal.TheVariants as refusal
 use Rattle.kt_play.specs.declared.report.RunFault.{RunFault}

@@ -3,8 +3,8 @@ use Rattle.std.specs.Prelude.{◌≡◌, Result, Ok, Err}
 use Rattle.std.specs.Io.KnownBytes.{IsAtEnd}
 use Rattle.std.proofs.Common.{inl, inr, subst, sym, ◌∙◌}
 use Rattle.kt_edge.specs.Writes.{TakesOrFails}
-use Rattle.kt_world.specs.declared.mark.End.{End}
-use Rattle.kt_world.specs.Job.{Job}
+use Rattle.kt_lone.specs.declared.mark.End.{End}
+use Rattle.kt_lone.specs.Job.{Job}
 use Rattle.kt_play.specs.declared.refusal.Refusal.{Refusal}
 use Rattle.kt_play.specs.declared.report.RunFault.{RunFault}
 use Rattle.kt_play.specs.declared.report.RunFault.TheVariants as fault

@@ -2,7 +2,7 @@
 use Rattle.std.specs.Prelude.{◌≡◌, ℕ, zero, suc, ◌+◌, ◌-◌, ◌<◌, min, List, [], ◌∷◌, ◌++◌, length, get_or, take, drop, replicate, refl}
 use Rattle.std.proofs.Common.{arith, sym, ap, ◌∙◌, append_assoc}
 use Rattle.std.proofs.lemmas.List.{drop_more}
-use Rattle.kt_world.specs.declared.mark.Mark.{Mark}
+use Rattle.kt_lone.specs.declared.mark.Mark.{Mark}
 use Rattle.kt_play.specs.Journal.{with_turn, stretches_of, turn_lines, mark_line, turn_of, lines_from}
 
 more_turns : (n : ℕ) → stretches_of (replicate (suc n) 0) ≡ record { thread = 0; count = suc n } ∷ []

@@ -4,7 +4,7 @@ use Rattle.std.proofs.Common.{inl, inr, sym, subst, ap, ◌∙◌}
 use Rattle.kt_stage.specs.Stage.{runs_alone, runs_updated}
 use Rattle.kt_syntax.specs.Answer.{OneAnswer}
 use Rattle.kt_tree.specs.Version.{Program}
-use Rattle.kt_world.specs.Job.{Job}
+use Rattle.kt_lone.specs.Job.{Job}
 use Rattle.kt_play.specs.declared.status.Cause.{Cause}
 use Rattle.kt_play.specs.declared.status.Cause.TheVariants.{Later}
 use Rattle.kt_play.specs.Job.{alone, updated, IsBlankText, IsJobOf, IsLaterAlone, IsLeastLater, IsLaterOfThree, IsOutside, IsOutsideOfThree}

@@ -2,9 +2,9 @@
 use Rattle.std.specs.Prelude.{◌≡◌, ℕ, List, replicate, Result, Ok, Err}
 use Rattle.std.proofs.Common.{ap, subst, sym}
 use Rattle.kt_machine.specs.Report.{HasRun}
-use Rattle.kt_world.specs.declared.mark.End.{End}
-use Rattle.kt_world.specs.declared.mark.Mark.{Mark}
-use Rattle.kt_world.specs.Job.{Job}
+use Rattle.kt_lone.specs.declared.mark.End.{End}
+use Rattle.kt_lone.specs.declared.mark.Mark.{Mark}
+use Rattle.kt_lone.specs.Job.{Job}
 use Rattle.kt_play.specs.declared.report.RunFault.{RunFault}
 use Rattle.kt_play.specs.declared.report.RunFault.TheVariants.{Write, NoMemory}
 use Rattle.kt_play.specs.Call.{Sinks}

@@ -1,8 +1,8 @@
 -- The answers of `play`: each is the end of a run, or to a refusal, or to a fault of a run.
 use Rattle.std.specs.Prelude.{◌≡◌, ◌⊎◌, refl}
 use Rattle.std.proofs.Common.{inl, inr, ap}
-use Rattle.kt_world.specs.declared.mark.End.{End}
-use Rattle.kt_world.specs.declared.mark.End.TheVariants as end
+use Rattle.kt_lone.specs.declared.mark.End.{End}
+use Rattle.kt_lone.specs.declared.mark.End.TheVariants as end
 use Rattle.kt_play.specs.declared.refusal.Refusal.{Refusal}
 use Rattle.kt_play.specs.declared.refusal.Refusal.TheVariants as refusal
 use Rattle.kt_play.specs.declared.report.RunFault.{RunFault}

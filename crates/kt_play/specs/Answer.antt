@@ -2,8 +2,8 @@
 use Rattle.std.specs.Prelude.{◌≡◌, ◌≢◌, ◌⊎◌, None, Result}
 use Rattle.std.specs.Io.KnownBytes.{IsAtEnd}
 use Rattle.kt_edge.specs.Writes.{TakesOrFails}
-use Rattle.kt_world.specs.declared.mark.End.{End}
-use Rattle.kt_world.specs.Job.{Job}
+use Rattle.kt_lone.specs.declared.mark.End.{End}
+use Rattle.kt_lone.specs.Job.{Job}
 use Rattle.kt_play.specs.declared.refusal.Refusal.{Refusal}
 use Rattle.kt_play.specs.declared.report.RunFault.{RunFault}
 use Rattle.kt_play.specs.declared.status.Status.{Status}

@@ -5,7 +5,7 @@ use Rattle.std.specs.List.{list_all}
 use Rattle.kt_lex.specs.Bytes.{is_blank}
 use Rattle.kt_stage.specs.Stage.{runs_alone, runs_updated}
 use Rattle.kt_tree.specs.Version.{Program}
-use Rattle.kt_world.specs.Job.{Job}
+use Rattle.kt_lone.specs.Job.{Job}
 use Rattle.kt_play.specs.declared.status.Cause.{Cause}
 use Rattle.kt_play.specs.declared.status.Cause.TheVariants.{Later}
 use Rattle.kt_play.specs.Text.{IsVersionText, IsFaultOf}

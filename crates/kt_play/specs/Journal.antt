@@ -3,12 +3,12 @@ use Rattle.std.specs.Prelude.{ℕ, ◌+◌, ◌-◌, ◌==◌, List, [], ◌∷�
 use Rattle.std.specs.Fmt.{decimal, signed_decimal}
 use Rattle.kt_mem.specs.declared.steps.Trap.{Trap}
 use Rattle.kt_mem.specs.declared.steps.Trap.TheVariants as trap
-use Rattle.kt_world.specs.declared.mark.Closed.{Closed}
-use Rattle.kt_world.specs.declared.mark.Closed.TheVariants as closed
-use Rattle.kt_world.specs.declared.mark.End.{End}
-use Rattle.kt_world.specs.declared.mark.End.TheVariants as end
-use Rattle.kt_world.specs.declared.mark.Mark.{Mark}
-use Rattle.kt_world.specs.declared.mark.Mark.TheVariants as mark
+use Rattle.kt_lone.specs.declared.mark.Closed.{Closed}
+use Rattle.kt_lone.specs.declared.mark.Closed.TheVariants as closed
+use Rattle.kt_lone.specs.declared.mark.End.{End}
+use Rattle.kt_lone.specs.declared.mark.End.TheVariants as end
+use Rattle.kt_lone.specs.declared.mark.Mark.{Mark}
+use Rattle.kt_lone.specs.declared.mark.Mark.TheVariants as mark
 
 -- some turns of one thread in a row
 pub record Stretch : Type 0 where

@@ -1,8 +1,8 @@
 -- Judging texts: why a text is no version, and texts are no job; what is asked of a job that runs.
 use Rattle.std.specs.Prelude.{◌≡◌, ℕ, List}
 use Rattle.kt_machine.specs.Report.{IsWellFormedJob}
-use Rattle.kt_world.specs.Job.{Job}
-use Rattle.kt_world.specs.Typed.{IsTypedJob}
+use Rattle.kt_lone.specs.Job.{Job}
+use Rattle.kt_lone.specs.Typed.{IsTypedJob}
 use Rattle.kt_play.specs.declared.refusal.NoJob.{NoJob}
 use Rattle.kt_play.specs.declared.refusal.NoJob.TheVariants.{File, NoMemory}
 use Rattle.kt_play.specs.Job.{IsOutside}

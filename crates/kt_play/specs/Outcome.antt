@@ -1,8 +1,8 @@
 -- What has become of a job that was accepted, and of the two sinks.
 use Rattle.std.specs.Prelude.{◌≡◌, ℕ, ◌⊎◌, List, Result, Ok, Err}
 use Rattle.kt_edge.specs.Writes.{Takes, FailsIn}
-use Rattle.kt_world.specs.declared.mark.End.{End}
-use Rattle.kt_world.specs.Job.{Job}
+use Rattle.kt_lone.specs.declared.mark.End.{End}
+use Rattle.kt_lone.specs.Job.{Job}
 use Rattle.kt_play.specs.declared.report.RunFault.{RunFault}
 use Rattle.kt_play.specs.declared.report.RunFault.TheVariants.{Write, NoMemory}
 use Rattle.kt_play.specs.Call.{Sinks}

@@ -4,9 +4,9 @@ use Rattle.std.specs.Io.KnownBytes.{IsAtEnd}
 use Rattle.kt_edge.specs.Count.{Rose}
 use Rattle.kt_edge.specs.FileMap.{Lacks}
 use Rattle.kt_edge.specs.Writes.{TakesOrFails}
-use Rattle.kt_world.specs.declared.mark.End.{End}
-use Rattle.kt_world.specs.Job.{Job}
-use Rattle.kt_world.specs.Turn.{IsComplete}
+use Rattle.kt_lone.specs.declared.mark.End.{End}
+use Rattle.kt_lone.specs.Job.{Job}
+use Rattle.kt_lone.specs.Turn.{IsComplete}
 use Rattle.kt_play.specs.declared.refusal.Refusal.{Refusal}
 use Rattle.kt_play.specs.declared.status.Cause.{Cause}
 use Rattle.kt_play.specs.declared.status.Which.{Which}

@@ -1,8 +1,8 @@
 -- The run that words, files and input ask for.
 use Rattle.std.specs.Prelude.{◌≡◌, ℕ, List}
-use Rattle.kt_world.specs.declared.mark.End.{End}
-use Rattle.kt_world.specs.Job.{Job}
-use Rattle.kt_world.specs.Turn.{world, IsComplete}
+use Rattle.kt_lone.specs.declared.mark.End.{End}
+use Rattle.kt_lone.specs.Job.{Job}
+use Rattle.kt_lone.specs.Turn.{world, IsComplete}
 use Rattle.kt_play.specs.Given.{Given, HoldAll, HoldsInput}
 use Rattle.kt_play.specs.Job.{IsJobText}
 use Rattle.kt_play.specs.Journal.{journal_of}

@@ -4,7 +4,7 @@ ghost use Rattle.std.specs.Prelude.{◌≡◌, ◌<◌, ◌≤◌, ℕ, Option, 
 ghost use Rattle.std.specs.List.{AllByRecursion, list_all};
 ghost use Rattle.kt_lex.specs.Bytes.{is_blank};
 ghost use Rattle.kt_stage.specs.Stage.{runs_alone, runs_updated};
-ghost use Rattle.kt_world.specs.Plain.{job_of};
+ghost use Rattle.kt_lone.specs.Plain.{job_of};
 ghost use Rattle.kt_play.specs.Job.{AreShort, IsBlankText, IsJobOf, IsLeastLater, alone, updated};
 ghost use Rattle.kt_play.specs.Names.{texts_in};
 ghost use Rattle.kt_play.specs.Judged.{IsNoJob, IsReadyJob};
@@ -13,10 +13,10 @@ use crate::gather::Texts;
 use crate::refusal::NoJob;
 use crate::status::Cause;
 use crate::text::version;
+use kt_lone::job::{Job, Numbers, Versions};
 use kt_stage::{runs_alone, runs_updated};
 use kt_tree::{Version, version_law};
 use kt_types::Text;
-use kt_world::job::{Job, Numbers, Versions};
 use std::alloc::Global;
 
 // The most turns of a run.

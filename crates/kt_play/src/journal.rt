@@ -5,8 +5,8 @@ ghost use Rattle.std.specs.Fmt.{decimal};
 ghost use Rattle.kt_play.specs.Journal as spec;
 
 use itoa::Buffer;
+use kt_lone::mark::{Closed, End, Mark};
 use kt_mem::Trap;
-use kt_world::mark::{Closed, End, Mark};
 use std::alloc::{AllocError, Global};
 
 /// The journal of so many turns of thread 0 and of these marks.

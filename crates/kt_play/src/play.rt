@@ -1,7 +1,7 @@
 //! The top call.
 
 ghost use Rattle.std.specs.Prelude.{◌≡◌};
-ghost use Rattle.kt_world.specs.Plain.{job_of};
+ghost use Rattle.kt_lone.specs.Plain.{job_of};
 ghost use Rattle.kt_play.specs.Answer.{IsAnswer};
 ghost use Rattle.kt_play.specs.Call.{call_of, sinks_of};
 ghost use Rattle.kt_play.specs.Given.{given_of};
@@ -17,9 +17,9 @@ use crate::report::{RunFault, write_report};
 use crate::run::run;
 use crate::status::Status;
 use kt_edge::{Files, Sink, Source};
+use kt_lone::job::Job;
+use kt_lone::mark::End;
 use kt_syntax::file_answer_law;
-use kt_world::job::Job;
-use kt_world::mark::End;
 use std::alloc::Global;
 
 // Runs an accepted job, and writes its output and its journal.

@@ -2,7 +2,7 @@
 
 ghost use Rattle.std.specs.Prelude.{◌≡◌, IfOk, IfErr, OnOk};
 ghost use Rattle.std.specs.Io.KnownBytes.{IsAtEnd};
-ghost use Rattle.kt_world.specs.Plain.{job_of};
+ghost use Rattle.kt_lone.specs.Plain.{job_of};
 ghost use Rattle.kt_play.specs.Given.{given_of};
 ghost use Rattle.kt_play.specs.Judged.{IsReadyJob};
 ghost use Rattle.kt_play.specs.Order.{texts};
@@ -14,7 +14,7 @@ use crate::job::job;
 use crate::order::names_of;
 use crate::refusal::{Refusal, Unready};
 use kt_edge::{Files, Source};
-use kt_world::job::Job;
+use kt_lone::job::Job;
 use std::alloc::Global;
 
 /// Reads the files that the words name and the input, and finds their job. The input is read where all files were.

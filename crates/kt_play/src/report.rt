@@ -8,8 +8,8 @@ ghost use Rattle.kt_play.specs.Outcome.{FailsToWrite, IsWritten};
 
 use crate::journal::journal;
 use kt_edge::{Failed, Sink, write_whole};
+use kt_lone::mark::End;
 use kt_machine::Report;
-use kt_world::mark::End;
 use std::alloc::{AllocError, Global};
 
 /// Why a run of a job was not written whole.

@@ -2,12 +2,12 @@
 
 ghost use Rattle.std.specs.Prelude.{IfOk};
 ghost use Rattle.kt_machine.specs.Report.{HasRun};
-ghost use Rattle.kt_world.specs.Plain.{job_of};
+ghost use Rattle.kt_lone.specs.Plain.{job_of};
 ghost use Rattle.kt_play.specs.Judged.{IsReadyJob};
 
 use crate::codes::compile_all;
+use kt_lone::job::Job;
 use kt_machine::{Report, take_turns};
-use kt_world::job::Job;
 use std::alloc::{AllocError, Global};
 
 /// Runs a job to its end.

@@ -5,8 +5,8 @@ ghost use Rattle.kt_play.specs.Status.{cause_name, cause_place, exit_of};
 
 use crate::refusal::Refusal;
 use crate::report::RunFault;
+use kt_lone::mark::End;
 use kt_mem::Trap;
-use kt_world::mark::End;
 
 /// What was to be read.
 #[derive(Clone, Copy, PartialEq, Eq, Debug)]

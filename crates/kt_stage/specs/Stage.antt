@@ -5,7 +5,7 @@ use Rattle.kt_tree.specs.declared.expr.Request.{Request}
 use Rattle.kt_tree.specs.declared.expr.Request.TheVariants as request
 use Rattle.kt_tree.specs.Tree.{Expression, Constant', LocalRead, LocalSet, LocalSwapped, Operated, Requested, Modified, Both, Either, Chosen, Called, Expressions, NoMore, More, Statement, Evaluated, Undefined, Compound, Conditional, Looped, Repeated, Returned, Broken, Continued, Statements, Done, Then, Function}
 use Rattle.kt_tree.specs.Version.{Program}
-use Rattle.kt_world.specs.Update.{is_int}
+use Rattle.kt_lone.specs.Update.{is_int}
 
 -- some request in the expression is one of these; what `x op= e` does with memory is no request
 abbrev mutual

@@ -2,7 +2,7 @@
 ghost use Rattle.std.specs.Prelude.{◌≡◌, map};
 ghost use Rattle.std.specs.List.{list_all, list_any};
 ghost use Rattle.kt_tree.specs.Tree.{function_of};
-ghost use Rattle.kt_world.specs.Update.{is_int};
+ghost use Rattle.kt_lone.specs.Update.{is_int};
 ghost use Rattle.kt_stage.specs.Stage.{is_threaded, function_asks, runs_alone, keeps_only_ints, runs_updated};
 
 use crate::asks::statement_asks;

@@ -1,2 +1,2 @@
-mod Globals
-mod WellFormed
+pub mod Following
+pub mod Counting

@@ -1,5 +1,5 @@
--- A closing: what refuses it, and the update (whole-program update as in Kitsune; OOPSLA 2012, section 3).
-use Rattle.std.specs.Prelude.{ℕ, pos, negsuc, nat_lt, ◌+◌, ◌-◌, ◌==◌, ◌&&◌, not, Bool, false, List, [], ◌∷◌, ◌++◌, map, length, Option, Some, None, option_and_then, is_none, Result, Ok, Err, if◌then◌else◌, slice_get}
+-- A closing: the update, or the refusal (whole-program update as in Kitsune; OOPSLA 2012, section 3).
+use Rattle.std.specs.Prelude.{ℕ, pos, negsuc, nat_lt, suc, ◌+◌, ◌-◌, ◌==◌, List, [], ◌∷◌, ◌++◌, map, flat_map, length, Option, Some, None, unwrap_or, if◌then◌else◌, slice_get}
 use Rattle.std.specs.Option.{option_map}
 use Rattle.kt_types.specs.declared.kinds.Ty.{Ty}
 use Rattle.kt_types.specs.declared.kinds.Ty.TheVariants as ty
@@ -9,26 +9,32 @@ use Rattle.kt_mem.specs.declared.memory.Name.{Name}
 use Rattle.kt_mem.specs.declared.memory.Name.TheVariants.{Glob, Lit, Heap}
 use Rattle.kt_mem.specs.declared.memory.Value.{Value}
 use Rattle.kt_mem.specs.declared.memory.Value.TheVariants.{Num, Null, Ptr, Free}
-use Rattle.kt_mem.specs.declared.steps.Act.{Act}
-use Rattle.kt_mem.specs.declared.steps.Act.TheVariants as act
 use Rattle.kt_mem.specs.declared.steps.Reply.TheVariants.{Done}
-use Rattle.kt_mem.specs.declared.steps.Trap.{Trap}
+use Rattle.kt_mem.specs.declared.thread.KeptLocal.{KeptLocal}
 use Rattle.kt_mem.specs.declared.thread.Mode.{Mode}
 use Rattle.kt_mem.specs.declared.thread.Mode.TheVariants.{Normal, Updating}
-use Rattle.kt_mem.specs.Memory.{Cell, Object, Memory, load, store, repeated, zero_value}
+use Rattle.kt_mem.specs.Memory.{Cell, Object, Memory, repeated, zero_value}
 use Rattle.kt_tree.specs.declared.global.GlobalDecl.{GlobalDecl}
 use Rattle.kt_tree.specs.declared.global.Init.{Init}
 use Rattle.kt_tree.specs.declared.global.Init.TheVariants as init
-use Rattle.kt_tree.specs.Kinds.{char_type, int_type}
-use Rattle.kt_tree.specs.Names.{place_of}
-use Rattle.kt_tree.specs.Version.{Program, global_names, update_points}
-use Rattle.kt_meaning.specs.Steps.{Step, Quiet, Acts, Traps, Ends, after_reply}
+use Rattle.kt_tree.specs.Kinds.{char_type}
+use Rattle.kt_tree.specs.Version.{Program}
+use Rattle.kt_meaning.specs.Thread.{Restart}
+use Rattle.kt_phase.specs.declared.counters.Phase.TheVariants.{Run, Main}
+use Rattle.xf_plan.specs.Images.{FreshPlace, fresh_places, image_count, kept_globals, live_cells, moved_object, new_value}
+use Rattle.xf_plan.specs.Plan.{Plan}
+use Rattle.xf_plan.specs.Reached.{reached}
+use Rattle.xf_plan.specs.declared.place.Place.{Place}
+use Rattle.xf_plan.specs.declared.place.Place.TheVariants.{Argument, Local}
+use Rattle.xf_plan.specs.declared.place.Root.{Root}
+use Rattle.kt_world.specs.declared.mark.Closed.{Closed}
 use Rattle.kt_world.specs.declared.mark.Closed.TheVariants as closed
-use Rattle.kt_world.specs.declared.mark.Mark.{Mark}
 use Rattle.kt_world.specs.declared.mark.Mark.TheVariants.{Close}
-use Rattle.kt_world.specs.declared.mark.Phase.TheVariants.{Run, Main}
-use Rattle.kt_world.specs.Job.{Job, version_at}
-use Rattle.kt_world.specs.World.{Engine, Standing, Live, Parked, Ended, Shared, Thread, World}
+use Rattle.kt_world.specs.Acts.{gone_on}
+use Rattle.kt_world.specs.Job.{Passage}
+use Rattle.kt_world.specs.Refusals.{next_point, refusal}
+use Rattle.kt_world.specs.Roots.{new_function, thread_roots}
+use Rattle.kt_world.specs.World.{Engine, Standing, Live, Waiter, Parked, Ended, Thread, World, marked}
 
 -- ---- the memory with which a version begins
 
@@ -59,150 +65,107 @@ char_cell b = record { ty = ty.Char; value = char_value b }
 abbrev pub literal_object : List ℕ → Object
 literal_object bytes = record { number = 0; ty = char_type; count = length bytes + 1; cells = map char_cell (bytes ++ 0 ∷ []) }
 
--- the globals and the literals of a program, which is version v
-abbrev pub first_object : ℕ → Program → Name → Option Object
-first_object v p (Glob i) = option_map (global_object v p.types) (slice_get p.globals i)
-first_object v p (Lit w i) = if w == v then option_map literal_object (slice_get p.literals i) else None
-first_object v p (Heap a) = None
+abbrev pub global_at : ℕ → Program → ℕ → Option Object
+global_at v p i = option_map (global_object v p.types) (slice_get p.globals i)
 
--- memory without a heap object, where `next` is the next heap number
-abbrev pub first_memory : ℕ → Program → ℕ → Memory
-first_memory v p next = record { at = first_object v p; next = next; live = 0 }
+-- the globals and the literals of a program, which is version v, beside other literals and heap objects
+abbrev pub object_at : ℕ → Program → (Name → Option Object) → Name → Option Object
+object_at v p others (Glob i) = global_at v p i
+object_at v p others (Lit w i) = if w == v then option_map literal_object (slice_get p.literals i) else others (Lit w i)
+object_at v p others (Heap a) = others (Heap a)
 
--- ---- globals that correspond
+-- ---- the new memory
 
--- a global of type `int`, and no array
-abbrev pub is_int : GlobalDecl → Bool
-is_int g = (g.ty == int_type) && not g.array
+-- the new version's globals with their initial values and its literals, the images of what is reached, the objects of fresh places
+abbrev pub new_memory : ℕ → Passage → Memory → List Root → Memory
+new_memory v j m roots =
+    let names = reached j.plan m roots in
+    let fresh = fresh_places j.plan m roots in
+    record { at = object_at v j.new (moved_object j.plan m names fresh); next = m.next + length fresh; live = live_cells j.plan m names fresh }
 
-abbrev pub int_at : List GlobalDecl → ℕ → Option ℕ
-int_at globals i = option_and_then (λ g. if is_int g then Some i else None) (slice_get globals i)
+-- ---- threads that begin again
 
--- the old global to which a new one corresponds: it has the same name, and both are of type `int`
-abbrev pub old_global : Program → GlobalDecl → Option ℕ
-old_global old g = if is_int g then option_and_then (int_at old.globals) (place_of g.name (global_names old)) else None
+-- the new values at the places of these roots that such a test tells, with what it tells of each
 
-abbrev pub value_if : Result Value Trap → Option Value
-value_if (Ok v) = Some v
-value_if (Err t) = None
+abbrev pub kept_local : ℕ → ℕ → Value → KeptLocal
+kept_local f x v = record { function = f; local = x; value = v }
 
--- what a global of type `int` holds
-abbrev pub value_of_global : Memory → ℕ → Option Value
-value_of_global m i = value_if (load m (Ptr (Glob i) 0) ty.Int)
+abbrev pub kept_at : Plan → Memory → List FreshPlace → ℕ → Root → Place → List KeptLocal
+kept_at p m fresh t r (Local u f x) = if u == t then kept_local f x (new_value p m fresh r.place r.value) ∷ [] else []
+kept_at p m fresh t r place = []
 
--- what is kept for a new global: the value of the old one to which it corresponds
-abbrev pub kept_value : Program → Memory → GlobalDecl → Option Value
-kept_value old m g = option_and_then (value_of_global m) (old_global old g)
+-- the kept values of a thread's noted locals
+abbrev pub kept_locals : Plan → Memory → List FreshPlace → List Root → ℕ → List KeptLocal
+kept_locals p m fresh roots t = flat_map (λ (r : Root). kept_at p m fresh t r r.place) roots
 
-abbrev pub kept_values : Program → Memory → Program → List (Option Value)
-kept_values old m new = map (kept_value old m) new.globals
+abbrev pub argument_at : Plan → Memory → List FreshPlace → ℕ → Root → Place → List Value
+argument_at p m fresh t r (Argument u) = if u == t then new_value p m fresh r.place r.value ∷ [] else []
+argument_at p m fresh t r place = []
 
-abbrev pub or_same : Memory → Result Memory Trap → Memory
-or_same m (Ok n) = n
-or_same m (Err t) = m
-
--- a kept value is stored into the global of that number
-abbrev pub placed_one : ℕ → Option Value → Memory → Memory
-placed_one i None m = m
-placed_one i (Some v) m = or_same m (store m (Ptr (Glob i) 0) ty.Int v)
-
--- the kept values, each in the global of its number, counted from i
-abbrev pub placed_from : ℕ → List (Option Value) → Memory → Memory
-placed_from i [] m = m
-placed_from i (k ∷ kept) m = placed_from (i + 1) kept (placed_one i k m)
-
-abbrev pub placed : List (Option Value) → Memory → Memory
-placed kept m = placed_from 0 kept m
-
--- ---- points
-
--- the point of the new version with the name of this point of the old one
-abbrev pub new_point : Program → Program → ℕ → Option ℕ
-new_point old new p = option_and_then (λ name. place_of name (update_points new)) (slice_get old.points.names p)
-
--- the point at which a thread stands
-abbrev pub point_of_act : Act → Option ℕ
-point_of_act (act.Point p) = Some p
-point_of_act _ = None
-
-abbrev pub point_of : {X : Type 0} → Step X → Option ℕ
-point_of (Quiet x) = None
-point_of (Acts a go) = point_of_act a
-point_of (Traps t) = None
-point_of (Ends a) = None
-
--- the point of the new version that corresponds to the one at which the thread stands
-abbrev pub next_point : {X : Type 0} → Program → Program → Step X → Option ℕ
-next_point old new s = option_and_then (new_point old new) (point_of s)
-
--- ---- threads
-
--- what a closing does to a thread: it changes those that are parked
-abbrev pub if_parked : {X : Type 0} → Standing → Thread X → Thread X → Thread X
-if_parked Live th changed = th
-if_parked Parked th changed = changed
-if_parked Ended th changed = th
-
--- the new version lacks the point at which the thread is parked
-abbrev pub is_lost : {X : Type 0} → Program → Program → Standing → Step X → Bool
-is_lost old new Live s = false
-is_lost old new Parked s = is_none (next_point old new s)
-is_lost old new Ended s = false
-
--- the least thread, counted from t, whose point the new version lacks
-abbrev pub lost_point : {X : Type 0} → Engine X → ℕ → Program → Program → ℕ → List (Thread X) → Option ℕ
-lost_point e v old new t [] = None
-lost_point e v old new t (th ∷ rest) =
-    if is_lost old new th.standing (e.step v th.state) then Some t else lost_point e v old new (t + 1) rest
-
--- after a refusal: past its point
-abbrev pub let_go : {X : Type 0} → Engine X → ℕ → Thread X → Thread X
-let_go e v th = if_parked th.standing th (record { state = e.settle v (after_reply th.state (e.step v th.state) Done); standing = Live })
+-- the argument of a thread, moved; `main` has none
+abbrev pub moved_arguments : Plan → Memory → List FreshPlace → List Root → ℕ → List Value
+moved_arguments p m fresh roots t = flat_map (λ (r : Root). argument_at p m fresh t r r.place) roots
 
 abbrev pub updating_from : Option ℕ → Mode
 updating_from None = Normal
 updating_from (Some p) = Updating p
 
--- after an update: at the entry of the new version, on the way to the point from which it was updated
-abbrev pub restarted : {X : Type 0} → Engine X → ℕ → Program → Program → Thread X → Thread X
-restarted e v old new th = if_parked th.standing th (record {
-  state = e.settle (v + 1) (e.entry (v + 1) (updating_from (next_point old new (e.step v th.state))));
-  standing = Live;
-})
+-- a thread at its entry in the new version, on the way to the point from which it was updated
+abbrev pub begun_again : {X : Type 0} → Engine X → ℕ → ℕ → List Value → Restart → Thread X
+begun_again e v f arguments r = record { entry = f; arguments = arguments; state = e.settle v (e.entry v f arguments r); standing = Live }
+
+abbrev pub restarted : {X : Type 0} → Engine X → ℕ → Passage → Memory → List Root → ℕ → Thread X → Thread X
+restarted e v j m roots t th =
+    let fresh = fresh_places j.plan m roots in
+    begun_again e (suc v) (unwrap_or (new_function j th.entry) 0) (moved_arguments j.plan m fresh roots t)
+    (record { mode = updating_from (next_point e v j th); kept = kept_locals j.plan m fresh roots t })
+
+-- what a closing does to threads: it changes those that are parked; all others have ended
+abbrev pub if_parked : {X : Type 0} → Standing → Thread X → Thread X → Thread X
+if_parked Live th changed = th
+if_parked (Waiter n k) th changed = th
+if_parked Parked th changed = changed
+if_parked Ended th changed = th
+
+abbrev pub all_restarted : {X : Type 0} → Engine X → ℕ → Passage → Memory → List Root → ℕ → List (Thread X) → List (Thread X)
+all_restarted e v j m roots t [] = []
+all_restarted e v j m roots t (th ∷ rest) =
+    if_parked th.standing th (restarted e v j m roots t th) ∷ all_restarted e v j m roots (suc t) rest
 
 -- ---- the closing
 
-abbrev pub marked : Mark → Shared → Shared
-marked m s = record s { marks = s.marks ++ m ∷ [] }
+-- the update: new memory, the old values kept aside, `main` at its entry and then the others at theirs
+abbrev pub updated : {X : Type 0} → Engine X → Passage → World X → List Root → World X
+updated e j w roots =
+    let s = w.shared in
+    record {
+      shared = marked (Close s.turns s.requests (closed.Ok (image_count j.plan s.memory roots))) (record s {
+        version = suc s.version;
+        memory = new_memory (suc s.version) j s.memory roots;
+        kept = kept_globals j.plan s.memory (fresh_places j.plan s.memory roots) 0 j.plan.globals;
+        phase = Main;
+      });
+      threads = all_restarted e s.version j s.memory roots 0 w.threads;
+    }
 
--- the update: the new version's globals with their initial values, its literals, and the old values kept aside
-abbrev pub updated : {X : Type 0} → Engine X → Program → Program → World X → World X
-updated e old new w = let s = w.shared in record {
-  shared = marked (Close s.turns s.requests (closed.Ok 0)) (record s {
-    version = s.version + 1;
-    memory = first_memory (s.version + 1) new s.memory.next;
-    kept = kept_values old s.memory new;
-    phase = Main;
-  });
-  threads = map (restarted e s.version old new) w.threads;
-}
+-- after a refusal a parked thread goes on past its point
+abbrev pub let_go : {X : Type 0} → Engine X → ℕ → Thread X → Thread X
+let_go e v th = if_parked th.standing th (record (gone_on e v th Done) { standing = Live })
 
--- a refusal: memory and code stay, and the threads go on past their points
-abbrev pub refused : {X : Type 0} → Engine X → ℕ → World X → World X
-refused e t w = let s = w.shared in record {
-  shared = marked (Close s.turns s.requests (closed.Point t)) (record s { phase = Run });
-  threads = map (let_go e s.version) w.threads;
-}
+-- a refusal: memory and code stay
+abbrev pub refused : {X : Type 0} → Engine X → Closed → World X → World X
+refused e c w =
+    let s = w.shared in
+    record { shared = marked (Close s.turns s.requests c) (record s { phase = Run }); threads = map (let_go e s.version) w.threads }
 
-abbrev pub decided : {X : Type 0} → Engine X → Program → Program → Option ℕ → World X → World X
-decided e old new None w = updated e old new w
-decided e old new (Some t) w = refused e t w
+abbrev pub decided : {X : Type 0} → Engine X → Passage → World X → List Root → Option Closed → World X
+decided e j w roots None = updated e j w roots
+decided e j w roots (Some c) = refused e c w
 
--- the closing between two versions
-abbrev pub closed_between : {X : Type 0} → Engine X → Option Program → Option Program → World X → World X
-closed_between e None new w = w
-closed_between e (Some old) None w = w
-closed_between e (Some old) (Some new) w = decided e old new (lost_point e w.shared.version old new 0 w.threads) w
+abbrev pub closed_from : {X : Type 0} → Engine X → Passage → World X → List Root → World X
+closed_from e j w roots = decided e j w roots (refusal e j w roots)
 
-abbrev pub closing : {X : Type 0} → Engine X → Job → World X → World X
-closing e job w = closed_between e (version_at job w.shared.version) (version_at job (w.shared.version + 1)) w
+-- where there is a next version
+abbrev pub closing : {X : Type 0} → Engine X → Option Passage → World X → World X
+closing e None w = w
+closing e (Some j) w = closed_from e j w (thread_roots e j w.shared.memory w.threads)

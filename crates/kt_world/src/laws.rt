@@ -1,28 +1,33 @@
-//! Laws of the definitions, each the contract of a function that does nothing.
+//! Laws of worlds, each the contract of a function that does nothing.
 
-ghost use Rattle.std.specs.Prelude.{◌≡◌, ◌↔◌, ◌++◌, ◌∷◌, [], ℕ};
-ghost use Rattle.kt_world.specs.Laws.{AreTurnsOf};
-ghost use Rattle.kt_world.specs.Plain.{job_of};
-ghost use Rattle.kt_world.specs.Turn.{MayTurn, tree_engine, turn, world};
-ghost use Rattle.kt_world.specs.Typed.{IsTypedJob, IsTypedWorld, IsWellFormed};
+ghost use Rattle.kt_world.specs.Laws.{MainIsAlone, OneMoreIsTheNext, OneMoreMayBeTaken, RefusalsChangeNothing, TurnsAreCounted};
+ghost use Rattle.kt_world.specs.Rows.{ChainRow, EndedRow, JoinRow, JoinTraps, RefusalRow, RequestRow, SignalRow, StuckRow, UpdateRow, WakeRow};
 
-use crate::job::Job;
-use crate::mark::Phase;
+/// One turn more is the world's next: a thread may take the next turn exactly where the turns before may be taken and it may
+/// take one in their world, and the world of the longer list is then one turn of it from theirs. While `main` is on its way
+/// to its point after an update, no other thread may take a turn. The turns are counted.
+pub fn turns_law()
+    ensures may { OneMoreMayBeTaken }
+    ensures next { OneMoreIsTheNext }
+    ensures main_alone { MainIsAlone }
+    ensures counted { TurnsAreCounted }
+{}
 
-/// One turn more is the world's next. A thread may take the next turn exactly where the turns before may be taken and
-/// it may take one in their world; the world of the longer list is then one turn of it from theirs. While `main` is on
-/// its way to its point after an update, no other thread may.
-///
-/// In each world each global of the version in force has its object, and there is one thread. Where the job's versions
-/// are programs and its input is bytes, each cell and each kept value is of its type, and the thread is one of the
-/// version in force, unless it has ended.
-pub fn world_law(job: &Job, turns: &[u8])
-    ensures followed { let j = job_of job.now in (t : ℕ) →
-        AreTurnsOf j (turns.now ++ t ∷ []) ↔ (AreTurnsOf j turns.now × MayTurn (tree_engine j) (world j turns.now) t) }
-    ensures next { let j = job_of job.now in (t : ℕ) → AreTurnsOf j (turns.now ++ t ∷ []) →
-        world j (turns.now ++ t ∷ []) ≡ turn (tree_engine j) j (world j turns.now) t }
-    ensures main_alone { let j = job_of job.now in (t : ℕ) → AreTurnsOf j (turns.now ++ t ∷ []) →
-        (world j turns.now).shared.phase ≡ Phase.Main → t ≡ 0 }
-    ensures well_formed { let j = job_of job.now in AreTurnsOf j turns.now → IsWellFormed j (world j turns.now) }
-    ensures typed { let j = job_of job.now in IsTypedJob j → AreTurnsOf j turns.now → IsTypedWorld j (world j turns.now) }
+/// A closing that is refused changes neither memory, nor kept values, nor the version in force.
+pub fn refusal_law()
+    ensures { RefusalsChangeNothing }
+{}
+
+/// Worked runs have the worlds that were worked out by hand.
+pub fn rows_law()
+    ensures join { JoinRow }
+    ensures traps { JoinTraps }
+    ensures stuck { StuckRow }
+    ensures update { UpdateRow }
+    ensures ended { EndedRow }
+    ensures refusals { RefusalRow }
+    ensures chain { ChainRow }
+    ensures signal { SignalRow }
+    ensures wake { WakeRow }
+    ensures request { RequestRow }
 {}

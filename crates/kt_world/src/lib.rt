@@ -1,6 +1,9 @@
-//! What a job is, and its worlds: turns, updates, marks and ends.
+//! Worlds: what a run of a job is, turn by turn: threads, acts, the barrier of an update, updates, marks and ends.
+//!
 #![tactic(auto)]
 
-pub mod job;
-pub mod laws;
-pub mod mark;
+mod laws;
+mod mark;
+
+pub use laws::{refusal_law, rows_law, turns_law};
+pub use mark::{Closed, End, Mark};

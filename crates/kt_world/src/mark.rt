@@ -1,27 +1,23 @@
-//! What the journal says beside the turns, and the phases between.
+//! What the journal of a run says beside the turns.
 
 use kt_mem::Trap;
-
-/// Where a run stands between an update's request and its end.
-#[derive(Clone, Copy)]
-pub enum Phase {
-    /// No update is asked for.
-    Run,
-    /// An update is asked for: threads park at their points.
-    Asked,
-    /// The new version's `main` is on the way to its point; no other thread takes a turn.
-    Main,
-    /// The other threads are on the way to their points.
-    Others,
-}
+use xf_plan::Fault;
 
 /// How a closing went.
-#[derive(Clone, Copy)]
+#[derive(Clone, Copy, PartialEq, Eq, Debug)]
 pub enum Closed {
-    /// It was accepted, with that many images.
+    /// It was accepted, with that many images of heap objects and literals.
     Ok(u64),
-    /// It was refused: the new version lacks the point at which that thread is parked.
+    /// Refused: a mutex is held.
+    Held,
+    /// Refused: the new version lacks the point at which that thread is parked.
     Point(u8),
+    /// Refused: that thread can't begin in the new version.
+    Entry(u8),
+    /// Refused: something is wrong at a place.
+    At(Fault),
+    /// Refused: an object, or all of them together, would be too large.
+    Size,
 }
 
 /// How a run ends.
@@ -38,10 +34,10 @@ pub enum End {
 }
 
 /// An event between two turns: `turn` is the turns so far, and `k` the request, counted from 1.
-#[derive(Clone, Copy)]
+#[derive(Clone, Copy, PartialEq, Eq, Debug)]
 pub enum Mark {
-    /// The request was made.
-    Ask { turn: u32, k: u8 },
+    /// The request was made, and woke that many waiters of conditions.
+    Ask { turn: u32, k: u8, woken: u8 },
     /// All live threads were parked, and the update was made or refused.
     Close { turn: u32, k: u8, closed: Closed },
     /// `main` came to the point from which it was updated.

@@ -3,7 +3,7 @@ use Rattle.std.proofs.lemmas.Option.{none-some, same_Some}
 use Rattle.kt_types.specs.declared.kinds.Ty.{Ty}
 use Rattle.kt_types.specs.Layout.{cells}
 use Rattle.kt_mem.specs.Memory.{Cell}
-use Rattle.kt_world.specs.Update.{initial_cell}
+use Rattle.kt_lone.specs.Update.{initial_cell}
 use Rattle.kt_machine.proofs.first_objects.first_cells.Goals as goal
 
 -- one cell more

@@ -1,6 +1,6 @@
 use Rattle.std.proofs.Common.{◌≡◌, map, take}
 use Rattle.kt_types.specs.Layout.{cells}
-use Rattle.kt_world.specs.Update.{initial_cell}
+use Rattle.kt_lone.specs.Update.{initial_cell}
 use Rattle.kt_machine.proofs.first_objects.first_cells.Given as goal
 
 abbrev pub invariant-loop-i : goal.invariant-loop-i

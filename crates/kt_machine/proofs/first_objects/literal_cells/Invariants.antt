@@ -1,5 +1,5 @@
 use Rattle.std.proofs.Common.{◌≡◌, map, take}
-use Rattle.kt_world.specs.Update.{char_cell}
+use Rattle.kt_lone.specs.Update.{char_cell}
 use Rattle.kt_machine.proofs.first_objects.literal_cells.Given as goal
 
 abbrev pub invariant-loop-byte : goal.invariant-loop-byte

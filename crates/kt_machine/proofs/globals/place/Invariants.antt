@@ -1,6 +1,6 @@
 use Rattle.std.proofs.Common.{◌≡◌, take}
 use Rattle.kt_flat.specs.Heap.{memory, given}
-use Rattle.kt_world.specs.Update.{placed}
+use Rattle.kt_lone.specs.Update.{placed}
 use Rattle.kt_machine.proofs.globals.place.Given as goal
 
 abbrev pub invariant-loop-i : goal.invariant-loop-i

@@ -1,4 +1,4 @@
-use Rattle.kt_world.specs.Plain.{job_of}
+use Rattle.kt_lone.specs.Plain.{job_of}
 use Rattle.kt_machine.proofs.SameRuns.{worlds-same}
 use Rattle.kt_machine.proofs.laws.same_law.Goals as goal
 

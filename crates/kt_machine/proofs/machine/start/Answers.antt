@@ -1,7 +1,7 @@
 use Rattle.std.proofs.Common.{ap, ◌∙◌}
 use Rattle.kt_tree.specs.Version.{Program}
-use Rattle.kt_world.specs.Plain.{job_of}
-use Rattle.kt_world.specs.Update.{first_memory}
+use Rattle.kt_lone.specs.Plain.{job_of}
+use Rattle.kt_lone.specs.Update.{first_memory}
 use Rattle.kt_machine.proofs.Starting.{started}
 use Rattle.kt_machine.proofs.machine.start.Goals as goal
 

@@ -1,5 +1,5 @@
 use Rattle.std.proofs.Common.{Some, sym, ap, ◌∙◌}
-use Rattle.kt_world.specs.Plain.{job_of}
+use Rattle.kt_lone.specs.Plain.{job_of}
 use Rattle.kt_machine.proofs.RunLemmas.{at_first, is_ready, live, nearer, ran, turned, version-within}
 use Rattle.kt_machine.proofs.turns.take_turns.Goals as goal
 

@@ -1,5 +1,5 @@
 use Rattle.std.proofs.Common.{◌-◌}
-use Rattle.kt_world.specs.Plain.{job_of}
+use Rattle.kt_lone.specs.Plain.{job_of}
 use Rattle.kt_machine.proofs.RunLemmas.{IsUnderWay}
 use Rattle.kt_machine.proofs.turns.take_turns.Given as goal
 

@@ -1,5 +1,5 @@
 use Rattle.std.proofs.Common.{◌++◌, ◌+◌, ◌-◌, replicate, drop, get_or, min, ap, ◌∙◌}
-use Rattle.kt_world.specs.declared.mark.Mark.TheVariants.{Ask}
+use Rattle.kt_lone.specs.declared.mark.Mark.TheVariants.{Ask}
 use Rattle.kt_play.specs.Journal.{turn_lines, mark_line, lines_from}
 use Rattle.kt_play.proofs.JournalLemmas.{next_mark}
 use Rattle.kt_play.proofs.journal.journal.Goals as goal

@@ -1,6 +1,6 @@
 use Rattle.std.proofs.Common.{◌≡◌, true, take}
 use Rattle.std.specs.List.{list_all}
-use Rattle.kt_world.specs.Update.{is_int}
+use Rattle.kt_lone.specs.Update.{is_int}
 use Rattle.kt_stage.proofs.stage.are_ints.Given as goal
 
 abbrev pub invariant-loop-global : goal.invariant-loop-global

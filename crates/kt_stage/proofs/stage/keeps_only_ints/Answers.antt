@@ -1,6 +1,6 @@
 use Rattle.std.proofs.Common.{ap, ◌∙◌, not}
 use Rattle.std.specs.List.{list_all}
-use Rattle.kt_world.specs.Update.{is_int}
+use Rattle.kt_lone.specs.Update.{is_int}
 use Rattle.kt_stage.proofs.Lists.{any-mapped, both}
 use Rattle.kt_stage.proofs.stage.keeps_only_ints.Goals as goal
 

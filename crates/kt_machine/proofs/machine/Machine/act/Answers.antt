@@ -2,9 +2,9 @@ use Rattle.std.proofs.Common.{◌≡◌, sym, subst, ap, ◌∙◌, slice_get}
 use Rattle.kt_tree.specs.Version.{Program}
 use Rattle.kt_meaning.specs.Steps.{Step}
 use Rattle.kt_code.specs.declared.private.Private.{Private}
-use Rattle.kt_world.specs.Job.{types_at}
-use Rattle.kt_world.specs.Plain.{job_of}
-use Rattle.kt_world.specs.Turn.{has_ended}
+use Rattle.kt_lone.specs.Job.{types_at}
+use Rattle.kt_lone.specs.Plain.{job_of}
+use Rattle.kt_lone.specs.Turn.{has_ended}
 use Rattle.kt_machine.specs.declared.effects.Outcome.{Outcome}
 use Rattle.kt_machine.specs.declared.machine.Machine.{Machine}
 use Rattle.kt_machine.specs.Acts.{MayReply, step_of}

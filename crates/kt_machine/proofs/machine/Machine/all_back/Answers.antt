@@ -1,6 +1,6 @@
 use Rattle.std.proofs.Common.{sym, ◌∙◌}
-use Rattle.kt_world.specs.declared.mark.Phase.TheVariants.{Others}
-use Rattle.kt_world.specs.Turn.{all_back}
+use Rattle.kt_lone.specs.declared.mark.Phase.TheVariants.{Others}
+use Rattle.kt_lone.specs.Turn.{all_back}
 use Rattle.kt_machine.specs.Engine.{code_engine, world_of}
 use Rattle.kt_machine.proofs.Acting.{on-ok}
 use Rattle.kt_machine.proofs.Trying.{ongoing-at}

@@ -1,5 +1,5 @@
 use Rattle.std.proofs.Common.{ap}
-use Rattle.kt_world.specs.Turn.{has_ended}
+use Rattle.kt_lone.specs.Turn.{has_ended}
 use Rattle.kt_machine.specs.Engine.{standing_of}
 use Rattle.kt_machine.proofs.Acting.{automigrate-reply}
 use Rattle.kt_machine.proofs.machine.Machine.automigrate.Goals as goal

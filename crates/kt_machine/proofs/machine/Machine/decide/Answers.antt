@@ -1,7 +1,7 @@
 use Rattle.std.proofs.Common.{◌+◌, ◌<◌, sym, subst, ap, length, slice_get}
-use Rattle.kt_world.specs.Plain.{job_of}
-use Rattle.kt_world.specs.Turn.{has_ended}
-use Rattle.kt_world.specs.World.{Shared}
+use Rattle.kt_lone.specs.Plain.{job_of}
+use Rattle.kt_lone.specs.Turn.{has_ended}
+use Rattle.kt_lone.specs.World.{Shared}
 use Rattle.kt_machine.specs.Engine.{standing_of}
 use Rattle.kt_machine.proofs.Acting.{on-ok}
 use Rattle.kt_machine.proofs.Closings.{decided-restart, decided-refuse, decided-ended}

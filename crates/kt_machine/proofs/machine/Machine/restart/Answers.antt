@@ -2,8 +2,8 @@ use Rattle.std.proofs.Common.{◌<◌, ◌+◌, Some, arith, sym, subst, ap, ◌
 use Rattle.kt_mem.specs.declared.thread.Mode.TheVariants.{Updating}
 use Rattle.kt_tree.specs.Version.{Program}
 use Rattle.kt_code.specs.Settling.{settle}
-use Rattle.kt_world.specs.Plain.{job_of}
-use Rattle.kt_world.specs.World.{Shared}
+use Rattle.kt_lone.specs.Plain.{job_of}
+use Rattle.kt_lone.specs.World.{Shared}
 use Rattle.kt_machine.specs.declared.machine.Machine.{Machine}
 use Rattle.kt_machine.specs.Engine.{code_entry, world_of}
 use Rattle.kt_machine.proofs.Closings.{restart-world}

@@ -1,7 +1,7 @@
 use Rattle.kt_code.specs.declared.private.Private.{Private}
-use Rattle.kt_world.specs.Plain.{job_of}
-use Rattle.kt_world.specs.Turn as world
-use Rattle.kt_world.specs.World.{World}
+use Rattle.kt_lone.specs.Plain.{job_of}
+use Rattle.kt_lone.specs.Turn as world
+use Rattle.kt_lone.specs.World.{World}
 use Rattle.kt_machine.specs.Engine.{code_engine, world_of}
 use Rattle.kt_machine.proofs.Turning.{two-steps}
 use Rattle.kt_machine.proofs.machine.Machine.turn.Goals as goal

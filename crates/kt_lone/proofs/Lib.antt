@@ -1,0 +1,2 @@
+mod Globals
+mod WellFormed

@@ -1,0 +1,12 @@
+pub mod Job
+pub mod World
+pub mod Update
+pub mod Turn
+pub mod Plain
+pub mod Laws
+pub mod SharedLaws
+pub mod Kept
+pub mod Typed
+pub mod TypedThreads
+pub mod TypedMemories
+pub mod TypedWorlds

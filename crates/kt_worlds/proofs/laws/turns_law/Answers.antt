@@ -1,6 +1,0 @@
-use Rattle.kt_worlds.proofs.Counting.{turns-counted}
-use Rattle.kt_worlds.proofs.Following.{one-more-may, one-more-next, main-alone}
-use Rattle.kt_worlds.proofs.laws.turns_law.Goals as goal
-
-pub returns : goal.returns
-returns c = record { may = one-more-may; next = one-more-next; main_alone = main-alone; counted = turns-counted }
