@@ -1,5 +1,5 @@
 -- Laws of worlds, as statements.
-use Rattle.std.specs.Prelude.{◌≡◌, ◌↔◌, ℕ, List, [], ◌∷◌, ◌++◌, length}
+use Rattle.std.specs.Prelude.{◌≡◌, ◌↔◌, ◌≤◌, ℕ, List, [], ◌∷◌, ◌++◌, length}
 use Rattle.kt_meaning.specs.Thread as tree
 use Rattle.kt_phase.specs.declared.counters.Phase.TheVariants.{Main}
 use Rattle.kt_world.specs.declared.mark.Closed.{Closed}
@@ -26,6 +26,11 @@ MainIsAlone = (job : Job) (turns : List ℕ) (t : ℕ) → AreTurnsOf job (turns
 -- the turns are counted
 abbrev pub TurnsAreCounted : Type 0
 TurnsAreCounted = (job : Job) (turns : List ℕ) → (world job turns).shared.turns ≡ length turns
+
+-- a heap number is given out once: the next one never falls
+abbrev pub HeapNumbersNeverFall : Type 0
+HeapNumbersNeverFall =
+    (job : Job) (turns : List ℕ) (t : ℕ) → (world job turns).shared.memory.next ≤ (world job (turns ++ t ∷ [])).shared.memory.next
 
 -- a refused closing changes neither memory nor code
 pub record StaysAtRefusal (job : Job) (c : Closed) (w : World tree.Thread) : Type 0 where
