@@ -1,9 +1,9 @@
-use Rattle.std.proofs.Common.{◌≡◌, [], None, Some, slice_get, sym, ◌∙◌, ap, subst}
+use Rattle.std.proofs.Common.{◌≡◌, [], Some, slice_get, sym, ◌∙◌, ap, subst}
 use Rattle.kt_tree.specs.Tree.{function_of}
 use Rattle.kt_tree.specs.Version.{Program, IsProgram}
 use Rattle.kt_pair.specs.VersionActs.{entry_state}
 use Rattle.kt_world.specs.Turn.{main_of, restart_in}
-use Rattle.kt_machine.specs.Engine.{code_entry, entry_of}
+use Rattle.kt_machine.specs.Engine.{code_entry}
 use Rattle.kt_machine.proofs.MainEntry.{entry-fits, entry-is, main-entry, main-there, ok-fits, ok-is}
 use Rattle.kt_machine.proofs.entry.enter_main.Goals as goal
 
