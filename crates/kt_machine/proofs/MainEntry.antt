@@ -1,5 +1,6 @@
 -- The entry of `main` in code fits the code.
 use Rattle.std.proofs.Common.{◌≡◌, ℕ, List, [], map, take, codes, slice_get, Option, Some, None, Result, Ok, Err, IfOk, refl, sym, ap, subst, ◌∙◌, inr}
+use Rattle.std.proofs.lemmas.Option.{same_Some}
 use Rattle.kt_types.specs.declared.kinds.FieldDecl.{FieldDecl}
 use Rattle.kt_mem.specs.declared.thread.Mode.{Mode}
 use Rattle.kt_tree.specs.Names.{place_of}
@@ -48,12 +49,11 @@ main-there p h e = none-some (h.main.0, h.main.1) (sym e ∙ main-is p h)
 pub main-entry : (p : Pair) → IsProgram p.program → ((n : ℕ) → DoesVersion (numbered p.program n) p.code) → (v g : ℕ) (f : Function) →
     main_of p.program ≡ Some (g, f) → slice_get p.code.entries g ≡ None → ⊥
 main-entry p h does v g f found e =
-    let same : g ≡ h.main.0 = same-first g h.main.0 f h.main.1 (sym found ∙ main-is p.program h) in
+    let same : g ≡ h.main.0 = same-first (main_of p.program) g h.main.0 f h.main.1 found (main-is p.program h) in
     none-some _ (sym (subst (λ g. slice_get p.code.entries g ≡ None) same e) ∙ (does v h.main.0 h.main.1 h.main.2).entry_is)
   where
-    same-first : (g k : ℕ) (f e : Function) → Some (g, f) ≡ Some (k, e) → g ≡ k
-    same-first g k f e h = cc
-
+    same-first : (o : Option (ℕ × Function)) (g k : ℕ) (f e : Function) → o ≡ Some (g, f) → o ≡ Some (k, e) → g ≡ k
+    same-first o g k f e h i = ap (λ (x : ℕ × Function). x.0) (same_Some (g, f) (k, e) (sym h ∙ i))
     none-some : (x : ℕ) → None ≡ Some x → ⊥
     none-some x e = cc
 

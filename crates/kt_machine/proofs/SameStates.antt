@@ -1,7 +1,7 @@
 -- Threads of the tree and of code that do the same acts still do so where both have settled, and after each reply of the
 -- act's kind.
 use Rattle.std.specs.Prelude.{◌≡◌, ℕ, zero, suc, List, [], ◌∷◌, refl}
-use Rattle.std.proofs.Common.{sym, subst, ap}
+use Rattle.std.proofs.Common.{subst, ap}
 use Rattle.kt_mem.specs.declared.steps.Reply.{Reply}
 use Rattle.kt_mem.specs.declared.steps.Reply.TheVariants.{Done, Got, Trapped}
 use Rattle.kt_meaning.specs.Laws.{numbered}
