@@ -6,3 +6,4 @@ pub mod Memory
 pub mod Stored
 pub mod Laws
 pub mod Causes
+pub mod Held

@@ -1,8 +1,7 @@
-//! What memory holds: names, values and cells.
+//! What memory holds: names, values, and lists of values and of cells.
 ghost use Rattle.std.specs.Prelude.{◌≡◌, ◌<◌, length, slice_set};
-ghost use Rattle.kt_mem.specs.Stored.{value_of, stored_of};
 
-use kt_types::Ty;
+use crate::cell::Cell;
 use std::alloc::AllocError;
 use std::marker::Model;
 
@@ -40,105 +39,6 @@ pub enum Value {
 
     /// The value of a cell or local that was not written yet.
     Undef,
-}
-
-/// A scalar cell of an object: its type, which never changes, and what it holds.
-#[derive(Clone, Copy)]
-pub struct Cell {
-    ty: Ty,
-    stored: Stored,
-}
-
-/// A value as a cell keeps it: with one tag, where a `Value` that is a pointer has two. A pointer's offset comes first, so
-/// that it lies beside the tag.
-#[derive(Clone, Copy)]
-enum Stored {
-    Num(i64),
-    Null,
-    // A pointer into a global: the offset, and the global's number.
-    Glob(u32, u32),
-    // A pointer into a literal: the offset, the version and the literal's number.
-    Lit(u32, u8, u32),
-    // A pointer into a heap object: the offset, and the object's number.
-    Heap(u32, u64),
-    Free,
-    Held(u8),
-    Undef,
-}
-
-impl Model for Cell {
-    ghost use Rattle.kt_mem.specs.Memory.{Cell as Content};
-
-    ghost Value = { Content };
-
-    ghost use Rattle.kt_mem.specs.Stored.{value_of, stored_of, stored_of-value_of};
-    ghost use Rattle.std.proofs.Common.{ap};
-
-    ghost view = { λ c. record { ty = c.ty; value = value_of c.stored } };
-
-    ghost inverse = { λ c. record { ty = c.ty; stored = stored_of c.value } };
-
-    ghost inverse_ok = { λ a _. ap (λ s. record { ty = a.ty; stored = s }) (stored_of-value_of a.stored) };
-}
-
-impl Cell {
-    /// A cell of a type that holds a value.
-    pub fn new(ty: Ty, value: Value) -> Cell
-        ensures { result ≡ record { ty = ty; value = value } }
-    {
-        Cell {
-            ty,
-            stored: Stored::of(value),
-        }
-    }
-
-    /// Its type.
-    pub fn ty(&self) -> Ty
-        ensures { result ≡ self.now.ty }
-    {
-        self.ty
-    }
-
-    /// What it holds.
-    pub fn value(&self) -> Value
-        ensures { result ≡ self.now.value }
-    {
-        self.stored.value()
-    }
-}
-
-impl Stored {
-    /// A value as a cell keeps it.
-    fn of(value: Value) -> Stored
-        ensures { result ≡ stored_of value }
-    {
-        match value {
-            Value::Num(z) => Stored::Num(z),
-            Value::Null => Stored::Null,
-            Value::Ptr(Name::Glob(i), offset) => Stored::Glob(offset, i),
-            Value::Ptr(Name::Lit(v, i), offset) => Stored::Lit(offset, v, i),
-            Value::Ptr(Name::Heap(a), offset) => Stored::Heap(offset, a),
-            Value::Free => Stored::Free,
-            Value::Held(thread) => Stored::Held(thread),
-            Value::Undef => Stored::Undef,
-        }
-    }
-
-    /// The value that is kept.
-    fn value(self) -> Value
-        ensures { result ≡ value_of self }
-    {
-        match self {
-            Stored::Num(z) => Value::Num(z),
-            Stored::Null => Value::Null,
-            Stored::Glob(offset, i) => Value::Ptr(Name::Glob(i), offset),
-            Stored::Lit(offset, v, i) => Value::Ptr(Name::Lit(v, i), offset),
-            Stored::Heap(offset, a) => Value::Ptr(Name::Heap(a), offset),
-            Stored::Free => Value::Free,
-            Stored::Held(thread) => Value::Held(thread),
-            Stored::Undef => Value::Undef,
-        }
-    }
 }
 
 /// A list of values, as the locals of a frame.
