@@ -17,9 +17,6 @@ pub struct Obj {
     pub cells: Cells,
 }
 
-// So the 4,194,304 heap cells that may live take 128 MiB.
-const _: () = prove!(size_of::<Cell>() <= 32);
-
 impl Obj {
     /// What the cell at an offset holds: `bounds` past the object, and at a cell of another type.
     pub(crate) fn value(&self, offset: u32, ty: Ty) -> Result<Value, Trap>

@@ -6,3 +6,5 @@ pub mod MemoryLaws
 pub mod ShapeLaws
 pub mod CauseLaws
 pub mod TypedAnswers
+pub mod HeldLaws
+pub mod KeptCells

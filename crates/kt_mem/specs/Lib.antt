@@ -4,5 +4,7 @@ pub mod Comparisons
 pub mod Elements
 pub mod Memory
 pub mod Stored
+pub mod Kept
 pub mod Laws
 pub mod Causes
+pub mod Held

@@ -1,6 +1,7 @@
 //! Laws of arithmetic and of memory: calls that do nothing, and ensure what holds of the definitions
 //! that the other calls cite.
 ghost use Rattle.kt_mem.specs.Causes.{LoadsAnswer, StoresAnswer, AllocsAnswer, ReleasesAnswer, LocksAnswer, UnlocksAnswer, InitsAnswer, LockHolds, UnlockFrees, InitFrees};
+ghost use Rattle.kt_mem.specs.Held.{HeldIsDecided};
 ghost use Rattle.kt_mem.specs.Laws.{DividesExactly, ResultsHaveType, LoadsWhatWasStored, StoreKeepsOthers, ReleaseEnds, ReleaseKeepsOthers, AllocTakesNext, AllocKeepsOthers, NumbersNeverReturn, StartsCounted, StaysCounted, StaysSmall, ShapesStay, StaysShaped, StaysNumbered, NumbersAreBelow};
 
 /// `(a / b) * b + a % b` is `a` (ISO/IEC 9899:2011, 6.5.5).
@@ -65,4 +66,9 @@ pub fn mutex_law()
     ensures lock { LockHolds }
     ensures unlock { UnlockFrees }
     ensures init { InitFrees }
+{}
+
+/// Whether some live mutex is held is decided over the names that can be there.
+pub fn held_law()
+    ensures { HeldIsDecided }
 {}

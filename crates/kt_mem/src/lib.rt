@@ -4,6 +4,7 @@
 #![tactic(auto)]
 
 mod arithmetic;
+mod cell;
 mod comparison;
 mod element;
 mod laws;
@@ -13,15 +14,16 @@ mod stored;
 mod thread;
 
 pub use arithmetic::{add, div, mul, narrow, rem, sub};
+pub use cell::Cell;
 pub use comparison::{
     defined, equal, greater, greater_equal, is_zero, less, less_equal, not, not_equal, truth,
 };
 pub use element::{add_elements, elements_between, sub_elements};
 pub use laws::{
-    answers_law, division_law, heap_number_law, live_cells_law, mutex_law, release_law, shape_law,
-    store_law, type_law,
+    answers_law, division_law, heap_number_law, held_law, live_cells_law, mutex_law, release_law,
+    shape_law, store_law, type_law,
 };
-pub use memory::{Cell, Cells, Name, Value, Values};
+pub use memory::{Cells, Name, Value, Values};
 pub use steps::{Act, Piece, Pieces, Reply, Trap};
 pub use stored::Stored;
 pub use thread::{KeptLocal, KeptLocals, Mode};

@@ -1,8 +1,7 @@
-//! What memory holds: names, values and cells.
+//! What memory holds: names, values, and lists of values and of cells.
 ghost use Rattle.std.specs.Prelude.{◌≡◌, ◌<◌, length, slice_set};
 
-use crate::stored::Stored;
-use kt_types::Ty;
+use crate::cell::Cell;
 use std::alloc::AllocError;
 use std::marker::Model;
 
@@ -40,49 +39,6 @@ pub enum Value {
 
     /// The value of a cell or local that was not written yet.
     Undef,
-}
-
-/// A scalar cell of an object: its type, which never changes, and what it holds.
-#[derive(Clone, Copy)]
-pub struct Cell {
-    ty: Ty,
-    stored: Stored,
-}
-
-impl Model for Cell {
-    ghost use Rattle.kt_mem.specs.Memory.{Cell as Content};
-
-    ghost Value = { Content };
-
-    ghost view = { λ c. record { ty = c.ty; value = c.stored } };
-
-    ghost inverse = { λ c. record { ty = c.ty; stored = c.value } };
-}
-
-impl Cell {
-    /// A cell of a type that holds a value.
-    pub fn new(ty: Ty, value: Value) -> Cell
-        ensures { result ≡ record { ty = ty; value = value } }
-    {
-        Cell {
-            ty,
-            stored: Stored::of(value),
-        }
-    }
-
-    /// Its type.
-    pub fn ty(&self) -> Ty
-        ensures { result ≡ self.now.ty }
-    {
-        self.ty
-    }
-
-    /// What it holds.
-    pub fn value(&self) -> Value
-        ensures { result ≡ self.now.value }
-    {
-        self.stored.value()
-    }
 }
 
 /// A list of values, as the locals of a frame.
