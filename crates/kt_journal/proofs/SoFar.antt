@@ -1,0 +1,132 @@
+-- What was read of a journal.
+use Rattle.std.proofs.Common.{◌≡◌, ℕ, ◌+◌, ◌-◌, ◌<◌, ◌≤◌, true, List, [], ◌∷◌, ◌++◌, length, take, drop, map, replicate, refl, ap, sym, subst, ◌∙◌, arith, codes, append_assoc, append-nil, length-append, eq-eqb}
+use Rattle.std.specs.List.{AllByRecursion}
+use Rattle.std.specs.Str.{bytes_eq}
+use Rattle.std.proofs.Math.Seq.{take-append_seam}
+use Rattle.std.proofs.lemmas.Bool.{false≢true}
+use Rattle.std.proofs.lemmas.List.{take-append-drop}
+use Rattle.std.specs.Prelude.{false, nat_eq, Option, Some, None, MatchOption}
+use Rattle.kt_journal.specs.declared.kit.Kit.TheVariants.{First, Second}
+use Rattle.kt_text.specs.Lines.{line_of}
+use Rattle.kt_journal.specs.declared.kit.Kit.{Kit}
+use Rattle.kt_journal.specs.Grammar.{Words, is_end}
+use Rattle.kt_journal.specs.Journal.{Entry, Turns, Mark, words_of, IsEntry, turns_of, most_turns, AreEntries, kit_words, text_of, front_of, Says, StandsAt, BreaksOff, LeavesAt, AtStart, AtLine, BehindEnd}
+use Rattle.kt_journal.specs.Reading.{TakesEntry, TakesNone, TakesEnd}
+use Rattle.kt_journal.proofs.Clean.{bytes-same}
+use Rattle.kt_journal.proofs.Writing.{text_in, text_in-append}
+
+-- these lines were read, which say these turns, and the rest is left
+pub record IsRead (kit : Kit) (bytes rest turns : List ℕ) : Type 0 where
+  pub entries : List Entry
+  pub are : AreEntries kit entries
+  pub bytes_are : bytes ≡ front_of kit entries ++ rest
+  pub turns_are : turns ≡ turns_of entries
+
+pub read-few : (kit : Kit) (bytes rest turns : List ℕ) → IsRead kit bytes rest turns → length turns ≤ most_turns
+read-few kit bytes rest turns so_far = subst (λ l. length l ≤ most_turns) (sym so_far.turns_are) so_far.are.few
+
+pub read-start : (kit : Kit) (bytes rest : List ℕ) → bytes ≡ line_of (kit_words kit) ++ rest → IsRead kit bytes rest []
+read-start kit bytes rest is = record {
+  entries = [];
+  are = record { formed = tt; few = omega arith };
+  bytes_are = is ∙ ap (λ l. l ++ rest) (sym (append-nil (line_of (kit_words kit))));
+  turns_are = refl;
+}
+
+turns-append : (xs ys : List Entry) → turns_of (xs ++ ys) ≡ turns_of xs ++ turns_of ys
+turns-append [] ys = refl
+turns-append (Turns t n ∷ xs) ys = ap (λ l. replicate n t ++ l) (turns-append xs ys) ∙ sym (append_assoc (replicate n t) (turns_of xs) (turns_of ys))
+turns-append (Mark words ∷ xs) ys = turns-append xs ys
+
+all-snoc : (kit : Kit) (entries : List Entry) (entry : Entry) → AllByRecursion (IsEntry kit) entries → IsEntry kit entry → AllByRecursion (IsEntry kit) (entries ++ entry ∷ [])
+all-snoc kit [] entry all one = (one, tt)
+all-snoc kit (e ∷ entries) entry all one = (all.0, all-snoc kit entries entry all.1 one)
+
+all-last : (kit : Kit) (entries : List Entry) (entry : Entry) → AllByRecursion (IsEntry kit) (entries ++ entry ∷ []) → IsEntry kit entry
+all-last kit [] entry all = all.0
+all-last kit (e ∷ entries) entry all = all-last kit entries entry all.1
+
+front-more : (kit : Kit) (entries : List Entry) (entry : Entry) (behind : List ℕ) → front_of kit (entries ++ entry ∷ []) ++ behind ≡ front_of kit entries ++ (line_of (words_of entry) ++ behind)
+front-more kit entries entry behind =
+    let first = line_of (kit_words kit) in
+    let line = line_of (words_of entry) in
+    ap (λ l. (first ++ l) ++ behind) (text_in-append entries (entry ∷ []) ∙ ap (λ l. text_in entries ++ l) (append-nil line))
+    ∙ ap (λ l. l ++ behind) (sym (append_assoc first (text_in entries) line))
+    ∙ append_assoc (first ++ text_in entries) line behind
+
+pub read-more : (kit : Kit) (bytes rest behind turns after : List ℕ) → IsRead kit bytes rest turns → TakesEntry kit turns after rest behind → IsRead kit bytes behind after
+read-more kit bytes rest behind turns after so_far takes =
+    let whole : after ≡ turns_of (so_far.entries ++ takes.entry ∷ []) =
+    takes.turns_are ∙ ap (λ l. l ++ turns_of (takes.entry ∷ [])) so_far.turns_are ∙ sym (turns-append so_far.entries (takes.entry ∷ []))
+    in
+    record {
+      entries = so_far.entries ++ takes.entry ∷ [];
+      are = record {
+        formed = all-snoc kit so_far.entries takes.entry so_far.are.formed takes.is_entry;
+        few = subst (λ l. length l ≤ most_turns) whole takes.few;
+      };
+      bytes_are = so_far.bytes_are ∙ ap (λ l. front_of kit so_far.entries ++ l) takes.stands ∙ sym (front-more kit so_far.entries takes.entry behind);
+      turns_are = whole;
+    }
+
+-- the last line is the last thing in the text
+pub read-end : (kit : Kit) (bytes rest behind turns : List ℕ) → IsRead kit bytes rest turns → TakesEnd rest behind → length behind ≡ 0 → Says bytes turns
+read-end kit bytes rest behind turns so_far takes none = record {
+  kit = kit;
+  entries = so_far.entries;
+  end = takes.end;
+  are_entries = so_far.are;
+  ends = takes.ends;
+  bytes_are = so_far.bytes_are ∙ ap (λ l. front_of kit so_far.entries ++ l) (takes.stands ∙ ap (λ l. line_of takes.end ++ l) (empty behind none) ∙ append-nil (line_of takes.end));
+  turns_are = so_far.turns_are;
+} where
+  empty : (l : List ℕ) → length l ≡ 0 → l ≡ []
+  empty [] e = refl
+  empty (x ∷ l) e = absurd (omega arith)
+
+-- something stands behind the last line
+pub read-behind : (kit : Kit) (bytes rest behind turns : List ℕ) → IsRead kit bytes rest turns → TakesEnd rest behind → 0 < length behind → LeavesAt bytes (length bytes - length behind)
+read-behind kit bytes rest behind turns so_far takes some =
+    let front = front_of kit so_far.entries in
+    let whole : bytes ≡ (front ++ line_of takes.end) ++ behind =
+    so_far.bytes_are ∙ ap (λ l. front ++ l) takes.stands ∙ sym (append_assoc front (line_of takes.end) behind)
+    in
+    let at : length (front ++ line_of takes.end) ≡ length bytes - length behind =
+    omega (arith, ap length whole, length-append (front ++ line_of takes.end) behind)
+    in
+    subst (LeavesAt bytes) at (BehindEnd kit so_far.entries takes.end behind so_far.are takes.ends whole some)
+
+-- no line goes on
+pub read-breaks : (kit : Kit) (bytes rest turns : List ℕ) → IsRead kit bytes rest turns → TakesNone kit turns rest
+    → ((end : Words) → is_end end ≡ true → StandsAt end rest → ⊥) → LeavesAt bytes (length bytes - length rest)
+read-breaks kit bytes rest turns so_far none no_end =
+    let entries = so_far.entries in
+    let at : length (front_of kit entries) ≡ length bytes - length rest = omega (arith, ap length so_far.bytes_are, length-append (front_of kit entries) rest) in
+    let no_entry = λ (entry : Entry) (are : AreEntries kit (entries ++ entry ∷ [])).
+    none entry (all-last kit entries entry are.formed)
+    (omega (arith, are.few, ap length (turns-append entries (entry ∷ [])), length-append (turns_of entries) (turns_of (entry ∷ [])), ap length so_far.turns_are))
+    in
+    subst (LeavesAt bytes) at (AtLine kit entries rest so_far.are so_far.bytes_are (record { no_entry = no_entry; no_end = no_end }))
+
+-- ---- the first line
+
+pub front-found : (bytes rest text : List ℕ) → bytes_eq (take (length text) bytes) text ≡ true → rest ≡ drop (length text) bytes → bytes ≡ text ++ rest
+front-found bytes rest text same is =
+    sym (take-append-drop (length text) bytes) ∙ ap (λ l. l ++ drop (length text) bytes) (bytes-same (take (length text) bytes) text same) ∙ ap (λ l. text ++ l) (sym is)
+
+bytes-alike : (text : List ℕ) → bytes_eq text text ≡ true
+bytes-alike [] = refl
+bytes-alike (b ∷ text) = let same : nat_eq b b ≡ true = eq-eqb b b refl in rw same (bytes-alike text)
+
+pub front-none : (bytes rest text : List ℕ) → bytes_eq (take (length text) bytes) text ≡ false → bytes ≡ text ++ rest → ⊥
+front-none bytes rest text other is =
+    let front : take (length text) bytes ≡ text = ap (take (length text)) is ∙ take-append_seam text rest in
+    false≢true (sym other ∙ ap (λ l. bytes_eq l text) front ∙ bytes-alike text)
+
+pub kits : (bytes : List ℕ) → (StandsAt (kit_words First) bytes → ⊥) → (StandsAt (kit_words Second) bytes → ⊥) → (kit : Kit) → StandsAt (kit_words kit) bytes → ⊥
+kits bytes first second First stands = first stands
+kits bytes first second Second stands = second stands
+
+pub none-first : {X : Type 0} (P Q : Type 0) (S : X → Type 0) (found : Option X) → (P → Q) → MatchOption found P S → MatchOption found Q S
+none-first P Q S None f h = f h
+none-first P Q S (Some x) f h = h

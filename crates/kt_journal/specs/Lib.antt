@@ -1,0 +1,4 @@
+pub mod Grammar
+pub mod Journal
+pub mod Reading
+pub mod Written
