@@ -7,7 +7,7 @@ use Rattle.std.specs.Str.{bytes_eq, all_ascii_digits}
 use Rattle.std.proofs.lemmas.Bool.{false≢true, and_parts}
 use Rattle.kt_lex.specs.Bytes.{is_word_byte}
 use Rattle.kt_lex.specs.Words.{is_among, keywords}
-use Rattle.kt_tree.specs.Names.{is_identifier}
+use Rattle.kt_grammar.specs.Identifiers.{is_identifier}
 use Rattle.kt_journal.specs.declared.kit.Kit.{Kit}
 use Rattle.kt_journal.specs.declared.kit.Kit.TheVariants.{First, Second}
 use Rattle.kt_journal.specs.Grammar.{Words, Form, is, is_one_of, is_number_up_to, is_number, is_thread, is_value, is_trap, trap_names, is_place_fault, place_faults, is_of, is_of_one, refused, refusals, request, progress, ends, is_mark, is_end}

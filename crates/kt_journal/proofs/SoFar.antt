@@ -11,51 +11,49 @@ use Rattle.kt_text.specs.Lines.{line_of}
 use Rattle.kt_journal.specs.declared.kit.Kit.{Kit}
 use Rattle.kt_journal.specs.Grammar.{Words, is_end}
 use Rattle.kt_journal.specs.Journal.{Entry, Turns, Mark, words_of, IsEntry, turns_of, most_turns, AreEntries, kit_words, text_of, front_of, Says, StandsAt, BreaksOff, LeavesAt, AtStart, AtLine, BehindEnd}
-use Rattle.kt_journal.specs.Reading.{TakesEntry, TakesNone, TakesEnd}
+use Rattle.kt_journal.specs.Reading.{TakesEntry, TakesNone, ReadsEntries, TakesEnd}
 use Rattle.kt_journal.proofs.Clean.{bytes-same}
 use Rattle.kt_journal.proofs.Writing.{text_in, text_in-append}
 
 -- these lines were read, which say these turns, and the rest is left
-pub record IsRead (kit : Kit) (bytes rest turns : List ℕ) : Type 0 where
+pub record IsRead (kit : Kit) (text rest turns : List ℕ) : Type 0 where
   pub entries : List Entry
   pub are : AreEntries kit entries
-  pub bytes_are : bytes ≡ front_of kit entries ++ rest
+  pub text_is : text ≡ text_in entries ++ rest
   pub turns_are : turns ≡ turns_of entries
 
-pub read-few : (kit : Kit) (bytes rest turns : List ℕ) → IsRead kit bytes rest turns → length turns ≤ most_turns
-read-few kit bytes rest turns so_far = subst (λ l. length l ≤ most_turns) (sym so_far.turns_are) so_far.are.few
+pub read-few : (kit : Kit) (text rest turns : List ℕ) → IsRead kit text rest turns → length turns ≤ most_turns
+read-few kit text rest turns so_far = subst (λ l. length l ≤ most_turns) (sym so_far.turns_are) so_far.are.few
 
-pub read-start : (kit : Kit) (bytes rest : List ℕ) → bytes ≡ line_of (kit_words kit) ++ rest → IsRead kit bytes rest []
-read-start kit bytes rest is = record {
+pub read-start : (kit : Kit) (text turns : List ℕ) → turns ≡ [] → IsRead kit text text turns
+read-start kit text turns none = record {
   entries = [];
   are = record { formed = tt; few = omega arith };
-  bytes_are = is ∙ ap (λ l. l ++ rest) (sym (append-nil (line_of (kit_words kit))));
-  turns_are = refl;
+  text_is = refl;
+  turns_are = none;
 }
 
-turns-append : (xs ys : List Entry) → turns_of (xs ++ ys) ≡ turns_of xs ++ turns_of ys
+pub turns-append : (xs ys : List Entry) → turns_of (xs ++ ys) ≡ turns_of xs ++ turns_of ys
 turns-append [] ys = refl
 turns-append (Turns t n ∷ xs) ys = ap (λ l. replicate n t ++ l) (turns-append xs ys) ∙ sym (append_assoc (replicate n t) (turns_of xs) (turns_of ys))
 turns-append (Mark words ∷ xs) ys = turns-append xs ys
 
-all-snoc : (kit : Kit) (entries : List Entry) (entry : Entry) → AllByRecursion (IsEntry kit) entries → IsEntry kit entry → AllByRecursion (IsEntry kit) (entries ++ entry ∷ [])
+pub all-snoc : (kit : Kit) (entries : List Entry) (entry : Entry) → AllByRecursion (IsEntry kit) entries → IsEntry kit entry → AllByRecursion (IsEntry kit) (entries ++ entry ∷ [])
 all-snoc kit [] entry all one = (one, tt)
 all-snoc kit (e ∷ entries) entry all one = (all.0, all-snoc kit entries entry all.1 one)
 
-all-last : (kit : Kit) (entries : List Entry) (entry : Entry) → AllByRecursion (IsEntry kit) (entries ++ entry ∷ []) → IsEntry kit entry
+pub all-last : (kit : Kit) (entries : List Entry) (entry : Entry) → AllByRecursion (IsEntry kit) (entries ++ entry ∷ []) → IsEntry kit entry
 all-last kit [] entry all = all.0
 all-last kit (e ∷ entries) entry all = all-last kit entries entry all.1
 
-front-more : (kit : Kit) (entries : List Entry) (entry : Entry) (behind : List ℕ) → front_of kit (entries ++ entry ∷ []) ++ behind ≡ front_of kit entries ++ (line_of (words_of entry) ++ behind)
-front-more kit entries entry behind =
-    let first = line_of (kit_words kit) in
+text-more : (entries : List Entry) (entry : Entry) (behind : List ℕ) → text_in (entries ++ entry ∷ []) ++ behind ≡ text_in entries ++ (line_of (words_of entry) ++ behind)
+text-more entries entry behind =
     let line = line_of (words_of entry) in
-    ap (λ l. (first ++ l) ++ behind) (text_in-append entries (entry ∷ []) ∙ ap (λ l. text_in entries ++ l) (append-nil line))
-    ∙ ap (λ l. l ++ behind) (sym (append_assoc first (text_in entries) line))
-    ∙ append_assoc (first ++ text_in entries) line behind
+    ap (λ l. l ++ behind) (text_in-append entries (entry ∷ []) ∙ ap (λ l. text_in entries ++ l) (append-nil line))
+    ∙ append_assoc (text_in entries) line behind
 
-pub read-more : (kit : Kit) (bytes rest behind turns after : List ℕ) → IsRead kit bytes rest turns → TakesEntry kit turns after rest behind → IsRead kit bytes behind after
-read-more kit bytes rest behind turns after so_far takes =
+pub read-more : (kit : Kit) (text rest behind turns after : List ℕ) → IsRead kit text rest turns → TakesEntry kit turns after rest behind → IsRead kit text behind after
+read-more kit text rest behind turns after so_far takes =
     let whole : after ≡ turns_of (so_far.entries ++ takes.entry ∷ []) =
     takes.turns_are ∙ ap (λ l. l ++ turns_of (takes.entry ∷ [])) so_far.turns_are ∙ sym (turns-append so_far.entries (takes.entry ∷ []))
     in
@@ -65,48 +63,64 @@ read-more kit bytes rest behind turns after so_far takes =
         formed = all-snoc kit so_far.entries takes.entry so_far.are.formed takes.is_entry;
         few = subst (λ l. length l ≤ most_turns) whole takes.few;
       };
-      bytes_are = so_far.bytes_are ∙ ap (λ l. front_of kit so_far.entries ++ l) takes.stands ∙ sym (front-more kit so_far.entries takes.entry behind);
+      text_is = so_far.text_is ∙ ap (λ l. text_in so_far.entries ++ l) takes.stands ∙ sym (text-more so_far.entries takes.entry behind);
       turns_are = whole;
     }
 
--- the last line is the last thing in the text
-pub read-end : (kit : Kit) (bytes rest behind turns : List ℕ) → IsRead kit bytes rest turns → TakesEnd rest behind → length behind ≡ 0 → Says bytes turns
-read-end kit bytes rest behind turns so_far takes none = record {
-  kit = kit;
+-- no such line goes on
+pub read-all : (kit : Kit) (text rest turns same : List ℕ) → IsRead kit text rest turns → same ≡ turns → TakesNone kit turns rest → ReadsEntries kit text rest same
+read-all kit text rest turns same so_far is none = record {
   entries = so_far.entries;
-  end = takes.end;
   are_entries = so_far.are;
-  ends = takes.ends;
-  bytes_are = so_far.bytes_are ∙ ap (λ l. front_of kit so_far.entries ++ l) (takes.stands ∙ ap (λ l. line_of takes.end ++ l) (empty behind none) ∙ append-nil (line_of takes.end));
-  turns_are = so_far.turns_are;
-} where
-  empty : (l : List ℕ) → length l ≡ 0 → l ≡ []
-  empty [] e = refl
-  empty (x ∷ l) e = absurd (omega arith)
+  stands = so_far.text_is;
+  turns_are = is ∙ so_far.turns_are;
+  no_more = subst (λ l. TakesNone kit l rest) (sym is) none;
+}
 
--- something stands behind the last line
-pub read-behind : (kit : Kit) (bytes rest behind turns : List ℕ) → IsRead kit bytes rest turns → TakesEnd rest behind → 0 < length behind → LeavesAt bytes (length bytes - length behind)
-read-behind kit bytes rest behind turns so_far takes some =
-    let front = front_of kit so_far.entries in
-    let whole : bytes ≡ (front ++ line_of takes.end) ++ behind =
-    so_far.bytes_are ∙ ap (λ l. front ++ l) takes.stands ∙ sym (append_assoc front (line_of takes.end) behind)
-    in
-    let at : length (front ++ line_of takes.end) ≡ length bytes - length behind =
-    omega (arith, ap length whole, length-append (front ++ line_of takes.end) behind)
-    in
-    subst (LeavesAt bytes) at (BehindEnd kit so_far.entries takes.end behind so_far.are takes.ends whole some)
+-- ---- the whole text
 
--- no line goes on
-pub read-breaks : (kit : Kit) (bytes rest turns : List ℕ) → IsRead kit bytes rest turns → TakesNone kit turns rest
-    → ((end : Words) → is_end end ≡ true → StandsAt end rest → ⊥) → LeavesAt bytes (length bytes - length rest)
-read-breaks kit bytes rest turns so_far none no_end =
-    let entries = so_far.entries in
-    let at : length (front_of kit entries) ≡ length bytes - length rest = omega (arith, ap length so_far.bytes_are, length-append (front_of kit entries) rest) in
-    let no_entry = λ (entry : Entry) (are : AreEntries kit (entries ++ entry ∷ [])).
-    none entry (all-last kit entries entry are.formed)
-    (omega (arith, are.few, ap length (turns-append entries (entry ∷ [])), length-append (turns_of entries) (turns_of (entry ∷ [])), ap length so_far.turns_are))
-    in
-    subst (LeavesAt bytes) at (AtLine kit entries rest so_far.are so_far.bytes_are (record { no_entry = no_entry; no_end = no_end }))
+empty : (l : List ℕ) → length l ≡ 0 → l ≡ []
+empty [] e = refl
+empty (x ∷ l) e = absurd (omega arith)
+
+module _ (kit : Kit) (bytes text rest turns : List ℕ) (first : bytes ≡ line_of (kit_words kit) ++ text) (reads : ReadsEntries kit text rest turns) where
+  whole-front : bytes ≡ front_of kit reads.entries ++ rest
+  whole-front = first ∙ ap (λ l. line_of (kit_words kit) ++ l) reads.stands ∙ sym (append_assoc (line_of (kit_words kit)) (text_in reads.entries) rest)
+
+  whole-end : (behind : List ℕ) (end : Words) → rest ≡ line_of end ++ behind → bytes ≡ (front_of kit reads.entries ++ line_of end) ++ behind
+  whole-end behind end stands =
+      whole-front ∙ ap (λ l. front_of kit reads.entries ++ l) stands ∙ sym (append_assoc (front_of kit reads.entries) (line_of end) behind)
+
+  -- the last line is the last thing in the text
+  pub read-end : (behind : List ℕ) → TakesEnd rest behind → length behind ≡ 0 → Says bytes turns
+  read-end behind takes none = record {
+    kit = kit;
+    entries = reads.entries;
+    end = takes.end;
+    are_entries = reads.are_entries;
+    ends = takes.ends;
+    bytes_are = whole-end behind takes.end takes.stands ∙ ap (λ l. (front_of kit reads.entries ++ line_of takes.end) ++ l) (empty behind none) ∙ append-nil (front_of kit reads.entries ++ line_of takes.end);
+    turns_are = reads.turns_are;
+  }
+
+  -- something stands behind the last line
+  pub read-behind : (behind : List ℕ) (at : ℕ) → TakesEnd rest behind → 0 < length behind → at + length behind ≡ length bytes → LeavesAt bytes at
+  read-behind behind at takes some place =
+      let front = front_of kit reads.entries ++ line_of takes.end in
+      let whole = whole-end behind takes.end takes.stands in
+      let here : length front ≡ at = omega (arith, ap length whole, length-append front behind) in
+      subst (LeavesAt bytes) here (BehindEnd kit reads.entries takes.end behind reads.are_entries takes.ends whole some)
+
+  -- no line goes on
+  pub read-breaks : (at : ℕ) → ((end : Words) → is_end end ≡ true → StandsAt end rest → ⊥) → at + length rest ≡ length bytes → LeavesAt bytes at
+  read-breaks at no_end place =
+      let entries = reads.entries in
+      let here : length (front_of kit entries) ≡ at = omega (arith, ap length whole-front, length-append (front_of kit entries) rest) in
+      let no_entry = λ (entry : Entry) (are : AreEntries kit (entries ++ entry ∷ [])).
+      reads.no_more entry (all-last kit entries entry are.formed)
+      (omega (arith, are.few, ap length (turns-append entries (entry ∷ [])), length-append (turns_of entries) (turns_of (entry ∷ [])), ap length reads.turns_are))
+      in
+      subst (LeavesAt bytes) here (AtLine kit entries rest reads.are_entries whole-front (record { no_entry = no_entry; no_end = no_end }))
 
 -- ---- the first line
 

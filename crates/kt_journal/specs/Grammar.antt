@@ -3,7 +3,7 @@ use Rattle.std.specs.Prelude.{ℕ, ◌^◌, ◌-◌, ◌==◌, ◌&&◌, ◌||�
 use Rattle.std.specs.List.{list_any}
 use Rattle.std.specs.Str.{bytes_eq}
 use Rattle.kt_text.specs.Numbers.{number_of}
-use Rattle.kt_tree.specs.Names.{is_identifier}
+use Rattle.kt_grammar.specs.Identifiers.{is_identifier}
 use Rattle.kt_journal.specs.declared.kit.Kit.{Kit}
 use Rattle.kt_journal.specs.declared.kit.Kit.TheVariants.{First, Second}
 

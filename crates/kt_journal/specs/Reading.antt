@@ -3,12 +3,12 @@
 use Rattle.std.specs.Prelude.{◌≡◌, ℕ, ◌+◌, ◌<◌, ◌≤◌, ◌==◌, ◌&&◌, Bool, true, false, List, [], ◌∷◌, ◌++◌, length, map, Option, Some, None, if◌then◌else◌, codes}
 use denote.Ref.{Bor}
 use Rattle.kt_text.specs.Lines.{line_of}
-use Rattle.kt_tree.specs.Names.{is_identifier}
+use Rattle.kt_grammar.specs.Identifiers.{is_identifier}
 use Rattle.kt_journal.specs.declared.kit.Kit.{Kit}
 use Rattle.kt_journal.specs.declared.form.Part.{Part}
 use Rattle.kt_journal.specs.declared.form.Part.TheVariants as part
 use Rattle.kt_journal.specs.Grammar.{Words, Form, is, is_number, is_number_up_to, is_thread, is_value, is_trap, is_place_fault, is_end, number_in}
-use Rattle.kt_journal.specs.Journal.{Entry, words_of, IsEntry, turns_of, most_turns, StandsAt}
+use Rattle.kt_journal.specs.Journal.{Entry, words_of, IsEntry, turns_of, most_turns, AreEntries, text_of, StandsAt}
 
 -- a byte more, in front of the first word
 abbrev pub with_byte : ℕ → Words → Words
@@ -66,6 +66,14 @@ pub record TakesEntry (kit : Kit) (before after rest behind : List ℕ) : Type 0
 abbrev pub TakesNone : Kit → (before rest : List ℕ) → Type 0
 TakesNone kit before rest =
     (entry : Entry) → IsEntry kit entry → length before + length (turns_of (entry ∷ [])) ≤ most_turns → StandsAt (words_of entry) rest → ⊥
+
+-- lines stand at the front that may stand there, which say these turns, and no such line goes on
+pub record ReadsEntries (kit : Kit) (text rest turns : List ℕ) : Type 0 where
+  pub entries : List Entry
+  pub are_entries : AreEntries kit entries
+  pub stands : text ≡ text_of (map words_of entries) ++ rest
+  pub turns_are : turns ≡ turns_of entries
+  pub no_more : TakesNone kit turns rest
 
 -- the last line stands at the front
 pub record TakesEnd (rest behind : List ℕ) : Type 0 where

@@ -9,8 +9,6 @@ use Rattle.kt_world.specs.declared.mark.End.{End}
 use Rattle.kt_world.specs.declared.mark.End.TheVariants as end
 use Rattle.kt_world.specs.declared.mark.Mark.{Mark}
 use Rattle.kt_world.specs.declared.mark.Mark.TheVariants as mark
-use Rattle.kt_world.specs.Job.{Job}
-use Rattle.kt_world.specs.Turn.{world}
 use Rattle.kt_journal.specs.declared.kit.Kit.TheVariants.{First}
 use Rattle.kt_journal.specs.Grammar.{Words}
 use Rattle.kt_journal.specs.Journal as journal
@@ -87,7 +85,3 @@ entries_from made turns (m ∷ marks) =
 
 abbrev pub journal_of : List ℕ → List Mark → List ℕ
 journal_of turns marks = front_of First (entries_from 0 turns marks)
-
--- of a job's turns
-abbrev pub journal_in : Job → List ℕ → List ℕ
-journal_in job turns = journal_of turns (world job turns).shared.marks

@@ -6,9 +6,8 @@ ghost use Rattle.kt_journal.specs.Grammar.{is_of};
 ghost use Rattle.kt_journal.specs.Reading.{split, test_of, form_of};
 
 use super::cut::first_word;
-use super::word::{
-    is, is_identifier, is_number, is_number_up_to, is_place_fault, is_thread, is_trap, is_value,
-};
+use super::word::{is, is_number, is_number_up_to, is_place_fault, is_thread, is_trap, is_value};
+use kt_grammar::is_identifier;
 
 /// What a word of a line may be.
 #[derive(Clone, Copy)]

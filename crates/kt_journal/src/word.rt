@@ -1,40 +1,10 @@
 //! What a word may be.
 
-ghost use Rattle.std.specs.Prelude.{◌≡◌, ◌≤◌, ◌&&◌, not, IfSome};
-ghost use Rattle.std.specs.List.{list_all, list_any};
-ghost use Rattle.std.specs.Char.{is_ascii_digit};
-ghost use Rattle.kt_lex.specs.Bytes.{is_word_byte};
-ghost use Rattle.kt_lex.specs.Words.{is_among, keywords};
-ghost use Rattle.kt_tree.specs.Names.{is_identifier};
+ghost use Rattle.std.specs.Prelude.{◌≡◌, ◌≤◌, IfSome};
+ghost use Rattle.std.specs.List.{list_any};
 ghost use Rattle.kt_journal.specs.Grammar as spec;
 
 use kt_text::read_number;
-
-const KEYWORDS: [&str; 23] = [
-    "char",
-    "int",
-    "long",
-    "void",
-    "struct",
-    "const",
-    "static",
-    "if",
-    "else",
-    "while",
-    "do",
-    "for",
-    "return",
-    "break",
-    "continue",
-    "sizeof",
-    "pthread_mutex_t",
-    "NULL",
-    "EOF",
-    "PTHREAD_MUTEX_INITIALIZER",
-    "E_NOTELOCALS",
-    "E_PTRARRAY",
-    "INIT",
-];
 
 const FAULTS: [&str; 4] = ["interior", "gone", "retyped", "extent"];
 
@@ -112,46 +82,4 @@ pub fn is_place_fault(word: &[u8]) -> bool
     ensures { result ≡ spec.is_place_fault word.now }
 {
     is_one_of(word, &FAULTS)
-}
-
-fn is_word_byte(byte: u8) -> bool
-    ensures { result ≡ is_word_byte byte }
-{
-    byte.is_ascii_alphanumeric() || byte == b'_'
-}
-
-fn are_word_bytes(word: &[u8]) -> bool
-    ensures { result ≡ list_all is_word_byte word.now }
-{
-    word.iter().all(|byte| is_word_byte(*byte))
-}
-
-#[tactic(auto, unfolding(kt_lex::specs::Words::is_among, kt_lex::specs::Words::keywords))]
-fn is_keyword(word: &[u8]) -> bool
-    ensures { result ≡ is_among keywords word.now }
-{
-    is_one_of(word, &KEYWORDS)
-}
-
-/// Whether a word that begins with this byte is an identifier.
-fn is_name(first: u8, word: &[u8]) -> bool
-    ensures { result ≡ (not (is_ascii_digit first) && list_all is_word_byte word.now && not (is_among keywords word.now)) }
-{
-    if first.is_ascii_digit() {
-        return false;
-    }
-    if !are_word_bytes(word) {
-        return false;
-    }
-    !is_keyword(word)
-}
-
-/// Whether it is an identifier of C.
-pub fn is_identifier(word: &[u8]) -> bool
-    ensures { result ≡ is_identifier word.now }
-{
-    match word {
-        [] => false,
-        [first, ..] => is_name(*first, word),
-    }
 }
