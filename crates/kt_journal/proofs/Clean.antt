@@ -24,7 +24,7 @@ other-byte : (p : ℕ → Bool) (k c : ℕ) (b : Bool) → (c == k) ≡ b → p 
 other-byte p k c false same lacks holds = refl
 other-byte p k c true same lacks holds = absurd (false≢true (sym lacks ∙ ap p (sym (eqb-true c k same)) ∙ holds))
 
-neither : (x y : Bool) → x ≡ false → y ≡ false → (x || y) ≡ false
+pub neither : (x y : Bool) → x ≡ false → y ≡ false → (x || y) ≡ false
 neither x y e f = ap (λ t. t || y) e ∙ f
 
 pub all-clean : (p : ℕ → Bool) → p 32 ≡ false → p 10 ≡ false → (word : List ℕ) → list_all p word ≡ true → IsClean word

@@ -48,11 +48,11 @@ said-if false o p is = let never : ⊥ = cc in absurd never
 over-zero : (n : ℕ) → (n == 0) ≡ false → 0 < n
 over-zero n h = grind (arith, nat_tests)
 
-abbrev thread_in : Option (ℕ × ℕ) → ℕ
+abbrev pub thread_in : Option (ℕ × ℕ) → ℕ
 thread_in None = 0
 thread_in (Some p) = p.0
 
-abbrev count_in : Option (ℕ × ℕ) → ℕ
+abbrev pub count_in : Option (ℕ × ℕ) → ℕ
 count_in None = 0
 count_in (Some p) = p.1
 
@@ -90,7 +90,7 @@ stretch-only (word ∷ (thread ∷ (count ∷ []))) t n eq =
     let third : count ≡ decimal n = (number_in-only most_turns count n (omega arith) parts.1).0 in
     record { words_are = cc; few = few; some = parts.2; most = most }
 
-turns-no-mark : (kit : Kit) (t n : ℕ) → is_mark kit (words_of (Turns t n)) ≡ false
+pub turns-no-mark : (kit : Kit) (t n : ℕ) → is_mark kit (words_of (Turns t n)) ≡ false
 turns-no-mark First t n = refl
 turns-no-mark Second t n = refl
 

@@ -144,3 +144,6 @@ kits bytes first second Second stands = second stands
 pub none-first : {X : Type 0} (P Q : Type 0) (S : X → Type 0) (found : Option X) → (P → Q) → MatchOption found P S → MatchOption found Q S
 none-first P Q S None f h = f h
 none-first P Q S (Some x) f h = h
+
+pub some-found : {X : Type 0} (P : Type 0) (S : X → Type 0) (found : Option X) (x : X) → found ≡ Some x → MatchOption found P S → S x
+some-found P S found x is h = subst (λ o. MatchOption o P S) is h

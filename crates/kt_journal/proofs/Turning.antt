@@ -44,3 +44,9 @@ stretch-four line a b c left more last first second third cut_line cut_left cut_
     cut_line ∙ ap (λ w. a ∷ w) (one ∙ cut_left ∙ ap (λ w. b ∷ w) (two ∙ cut_more ∙ ap (λ w. c ∷ w) three))
     in
     sym (ap stretch_in words ∙ four_none a b c last)
+
+pub other-way : (a b : Bool) → a ≡ not b → b ≡ not a
+other-way true false is = refl
+other-way false true is = refl
+other-way true true is = is
+other-way false false is = is
