@@ -1,6 +1,6 @@
 -- What the first line of a text says.
-use Rattle.std.proofs.Common.{◌≡◌, ℕ, zero, suc, ◌+◌, ◌-◌, ◌^◌, ◌<◌, ◌≤◌, Bool, true, false, ◌&&◌, eqb, List, [], ◌∷◌, ◌++◌, length, replicate, Option, Some, None, refl, ap, sym, subst, ◌∙◌, arith, codes, length-append, append-nil}
-use Rattle.std.specs.Prelude.{◌==◌, nat_le, if◌then◌else◌}
+use Rattle.std.proofs.Common.{◌≡◌, ℕ, ◌+◌, ◌^◌, ◌<◌, ◌≤◌, Bool, true, false, List, [], ◌∷◌, ◌++◌, length, replicate, Option, Some, None, refl, ap, sym, subst, ◌∙◌, arith, codes, length-append, append-nil}
+use Rattle.std.specs.Prelude.{◌==◌, if◌then◌else◌}
 use Rattle.std.specs.Fmt.{decimal}
 use Rattle.std.proofs.lemmas.Bool.{false≢true}
 use Rattle.std.proofs.lemmas.Bool.Decides.{nat_tests}
@@ -16,7 +16,7 @@ use Rattle.kt_journal.specs.Journal.{Entry, Turns, Mark, words_of, IsEntry, turn
 use Rattle.kt_journal.specs.Reading.{split, some_turns, stretch_in, TakesEntry, TakesNone, TakesEnd}
 use Rattle.kt_journal.proofs.Numbers.{number_in-decimal, number_in-only}
 use Rattle.kt_journal.proofs.Clean.{digits-clean, is-same, mark-clean, mark-some, end-clean, end-some}
-use Rattle.kt_journal.proofs.Splitting.{has, IsClean, AreClean, IsSomeWords, line-split, stands-words, stands-nowhere}
+use Rattle.kt_journal.proofs.Splitting.{has, IsClean, AreClean, line-split, stands-words, stands-nowhere}
 
 -- ---- turns
 

@@ -1,13 +1,13 @@
 -- A text is a journal in one way, or leaves the grammar at one place.
-use Rattle.std.proofs.Common.{◌≡◌, ℕ, ◌+◌, ◌<◌, ◌≤◌, Bool, true, false, ◌&&◌, ◌||◌, List, [], ◌∷◌, ◌++◌, length, map, refl, ap, sym, subst, ◌∙◌, arith, codes, append_assoc, append-nil, length-append}
-use Rattle.std.specs.Prelude.{Option, Some, None}
+use Rattle.std.proofs.Common.{◌≡◌, ℕ, ◌+◌, ◌<◌, ◌≤◌, Bool, true, false, ◌&&◌, List, [], ◌∷◌, ◌++◌, length, refl, ap, sym, subst, ◌∙◌, arith, codes, append_assoc, append-nil, length-append}
+use Rattle.std.specs.Prelude.{Some}
 use Rattle.std.specs.List.{AllByRecursion}
 use Rattle.std.proofs.lemmas.Bool.{false≢true}
 use Rattle.kt_text.specs.Lines.{line_of}
 use Rattle.kt_journal.specs.declared.kit.Kit.{Kit}
 use Rattle.kt_journal.specs.declared.kit.Kit.TheVariants.{First, Second}
 use Rattle.kt_journal.specs.Grammar.{Words, Form, is, is_of, is_value, is_thread, is_trap, is_mark, is_end}
-use Rattle.kt_journal.specs.Journal.{Entry, Turns, Mark, words_of, IsEntry, turns_of, most_turns, AreEntries, kit_words, text_of, front_of, Says, StandsAt, BreaksOff, LeavesAt, AtStart, AtLine, BehindEnd}
+use Rattle.kt_journal.specs.Journal.{Entry, Turns, Mark, words_of, IsEntry, turns_of, most_turns, AreEntries, kit_words, front_of, Says, StandsAt, BreaksOff, LeavesAt, AtStart, AtLine, BehindEnd}
 use Rattle.kt_journal.specs.Reading.{stretch_in}
 use Rattle.kt_journal.proofs.Clean.{is-same, neither, mark-clean, mark-some, end-clean, end-some}
 use Rattle.kt_journal.proofs.Entries.{stretch-turns, turns-no-mark, turns-clean, length-turns, thread_in, count_in}

@@ -1,5 +1,5 @@
 -- What was read of a journal.
-use Rattle.std.proofs.Common.{◌≡◌, ℕ, ◌+◌, ◌-◌, ◌<◌, ◌≤◌, true, List, [], ◌∷◌, ◌++◌, length, take, drop, map, replicate, refl, ap, sym, subst, ◌∙◌, arith, codes, append_assoc, append-nil, length-append, eq-eqb}
+use Rattle.std.proofs.Common.{◌≡◌, ℕ, ◌-◌, ◌<◌, ◌≤◌, true, List, [], ◌∷◌, ◌++◌, length, take, drop, replicate, refl, ap, sym, subst, ◌∙◌, arith, append_assoc, append-nil, length-append, eq-eqb}
 use Rattle.std.specs.List.{AllByRecursion}
 use Rattle.std.specs.Str.{bytes_eq}
 use Rattle.std.proofs.Math.Seq.{take-append_seam}
@@ -10,7 +10,7 @@ use Rattle.kt_journal.specs.declared.kit.Kit.TheVariants.{First, Second}
 use Rattle.kt_text.specs.Lines.{line_of}
 use Rattle.kt_journal.specs.declared.kit.Kit.{Kit}
 use Rattle.kt_journal.specs.Grammar.{Words, is_end}
-use Rattle.kt_journal.specs.Journal.{Entry, Turns, Mark, words_of, IsEntry, turns_of, most_turns, AreEntries, kit_words, text_of, front_of, Says, StandsAt, BreaksOff, LeavesAt, AtStart, AtLine, BehindEnd}
+use Rattle.kt_journal.specs.Journal.{Entry, Turns, Mark, words_of, IsEntry, turns_of, most_turns, AreEntries, kit_words, front_of, Says, StandsAt, LeavesAt, AtLine, BehindEnd}
 use Rattle.kt_journal.specs.Reading.{TakesEntry, TakesNone, ReadsEntries, TakesEnd}
 use Rattle.kt_journal.proofs.Clean.{bytes-same}
 use Rattle.kt_journal.proofs.Writing.{text_in, text_in-append}
@@ -104,7 +104,7 @@ module _ (kit : Kit) (bytes text rest turns : List ℕ) (first : bytes ≡ line_
   }
 
   -- something stands behind the last line
-  pub read-behind : (behind : List ℕ) (at : ℕ) → TakesEnd rest behind → 0 < length behind → at + length behind ≡ length bytes → LeavesAt bytes at
+  pub read-behind : (behind : List ℕ) (at : ℕ) → TakesEnd rest behind → 0 < length behind → at ≡ length bytes - length behind → LeavesAt bytes at
   read-behind behind at takes some place =
       let front = front_of kit reads.entries ++ line_of takes.end in
       let whole = whole-end behind takes.end takes.stands in
@@ -112,7 +112,7 @@ module _ (kit : Kit) (bytes text rest turns : List ℕ) (first : bytes ≡ line_
       subst (LeavesAt bytes) here (BehindEnd kit reads.entries takes.end behind reads.are_entries takes.ends whole some)
 
   -- no line goes on
-  pub read-breaks : (at : ℕ) → ((end : Words) → is_end end ≡ true → StandsAt end rest → ⊥) → at + length rest ≡ length bytes → LeavesAt bytes at
+  pub read-breaks : (at : ℕ) → ((end : Words) → is_end end ≡ true → StandsAt end rest → ⊥) → at ≡ length bytes - length rest → LeavesAt bytes at
   read-breaks at no_end place =
       let entries = reads.entries in
       let here : length (front_of kit entries) ≡ at = omega (arith, ap length whole-front, length-append (front_of kit entries) rest) in

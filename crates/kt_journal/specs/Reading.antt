@@ -1,6 +1,6 @@
 -- For the contracts of the functions that read: the words in a line, what the parts of a form are, and what a line adds to
 -- the turns.
-use Rattle.std.specs.Prelude.{◌≡◌, ℕ, ◌+◌, ◌<◌, ◌≤◌, ◌==◌, ◌&&◌, Bool, true, false, List, [], ◌∷◌, ◌++◌, length, map, Option, Some, None, if◌then◌else◌, codes}
+use Rattle.std.specs.Prelude.{◌≡◌, ℕ, ◌+◌, ◌≤◌, ◌==◌, Bool, true, List, [], ◌∷◌, ◌++◌, length, map, Option, Some, None, if◌then◌else◌, codes}
 use denote.Ref.{Bor}
 use Rattle.kt_text.specs.Lines.{line_of}
 use Rattle.kt_grammar.specs.Identifiers.{is_identifier}

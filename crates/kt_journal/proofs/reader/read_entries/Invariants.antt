@@ -1,4 +1,4 @@
-use Rattle.std.proofs.Common.{ℕ, length}
+use Rattle.std.proofs.Common.{length}
 use Rattle.kt_journal.proofs.SoFar.{IsRead}
 use Rattle.kt_journal.proofs.reader.read_entries.Given as goal
 
