@@ -1,5 +1,8 @@
+pub mod Between
 pub mod Clean
 pub mod Entries
+pub mod Lines
+pub mod MainOnly
 pub mod Numbers
 pub mod Once
 pub mod SoFar

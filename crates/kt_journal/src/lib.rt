@@ -5,11 +5,13 @@ mod cut;
 mod fault;
 mod form;
 mod kit;
+mod laws;
 mod line;
 mod reader;
 mod word;
 mod writer;
 
 pub use fault::JournalFault;
+pub use laws::main_only_law;
 pub use reader::read;
 pub use writer::write;
