@@ -107,19 +107,21 @@ between-turn made all b turns [] t sum order zeroth between = λ on. all-more tu
 between-turn made all b turns (m ∷ marks) t sum order zeroth between =
     let k = turn_of m - made in
     let high = order-le (turn_of m) all marks order.1 in
-    let within : k ≤ length turns = omega (arith, high, order.0, sum) in
-    (subst (λ l. b ≡ true → AreOfMain l) (sym (take-append-le k turns (t ∷ []) within)) between.0,
-    subst (λ l. Between (turn_of m) (is_on_its_way (mark_words m) b) l marks) (sym (drop-append-le k turns (t ∷ []) within))
-    (between-turn (turn_of m) all (is_on_its_way (mark_words m) b) (drop k turns) marks t (rest-all made all (turn_of m) turns order.0 high sum) order.1 zeroth between.1))
+    let within : k ≤ length turns = omega (arith, high, order.0, sum) in (
+      subst (λ l. b ≡ true → AreOfMain l) (sym (take-append-le k turns (t ∷ []) within)) between.0,
+      subst (λ l. Between (turn_of m) (is_on_its_way (mark_words m) b) l marks) (sym (drop-append-le k turns (t ∷ []) within))
+          (between-turn (turn_of m) all (is_on_its_way (mark_words m) b) (drop k turns) marks t (rest-all made all (turn_of m) turns order.0 high sum) order.1 zeroth between.1),
+    )
 
 -- one mark more
 pub between-mark : (made all : ℕ) (b : Bool) (turns : List ℕ) (marks : List Mark) (m : Mark) → all ≡ made + length turns → AreInOrder made all marks
     → turn_of m ≡ all → Between made b turns marks → Between made b turns (marks ++ m ∷ [])
 between-mark made all b turns [] m sum order is between =
     let k = turn_of m - made in
-    let size : length turns ≤ k = omega (arith, sum, is) in
-    (subst (λ l. b ≡ true → AreOfMain l) (sym (take_all k turns size)) between,
-    subst (λ l. is_on_its_way (mark_words m) b ≡ true → AreOfMain l) (sym (drop_all k turns size)) (λ on. tt))
+    let size : length turns ≤ k = omega (arith, sum, is) in (
+      subst (λ l. b ≡ true → AreOfMain l) (sym (take_all k turns size)) between,
+      subst (λ l. is_on_its_way (mark_words m) b ≡ true → AreOfMain l) (sym (drop_all k turns size)) (λ on. tt),
+    )
 between-mark made all b turns (n ∷ marks) m sum order is between =
     let high = order-le (turn_of n) all marks order.1 in
     (between.0, between-mark (turn_of n) all (is_on_its_way (mark_words n) b) (drop (turn_of n - made) turns) marks m (rest-all made all (turn_of n) turns order.0 high sum) order.1 is between.1)

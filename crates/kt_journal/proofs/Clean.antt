@@ -159,17 +159,37 @@ refusals-clean =
     let l = word-cleans (codes "l") refl in
     let h = word-cleans (codes "h") refl in (
       refused-cleans (is (codes "held") ∷ []) (word-cleans (codes "held") refl, tt),
-      (refused-cleans (is (codes "size") ∷ []) (word-cleans (codes "size") refl, tt),
-      (refused-cleans (is (codes "point") ∷ is_thread ∷ []) (word-cleans (codes "point") refl, (thread, tt)),
-      (refused-cleans (is (codes "entry") ∷ is_thread ∷ []) (word-cleans (codes "entry") refl, (thread, tt)),
-      (refused-cleans (is_place_fault ∷ is (codes "g") ∷ is_identifier ∷ is_number ∷ []) (fault-cleans, (g, (name-cleans, (number, tt)))),
-      (refused-cleans (is_place_fault ∷ is (codes "a") ∷ is_thread ∷ []) (fault-cleans, (a, (thread, tt))),
-      (refused-cleans (is_place_fault ∷ is (codes "l") ∷ is_thread ∷ is_identifier ∷ is_identifier ∷ []) (fault-cleans, (l, (thread, (name-cleans, (name-cleans, tt))))),
-      (refused-cleans (is_place_fault ∷ is (codes "h") ∷ is_number ∷ is_number ∷ []) (fault-cleans, (h, (number, (number, tt)))),
-      (refused-cleans (is (codes "rule") ∷ is (codes "g") ∷ is_identifier ∷ is_number ∷ is_trap ∷ []) (rule, (g, (name-cleans, (number, (trap-cleans, tt))))),
-      (refused-cleans (is (codes "rule") ∷ is (codes "a") ∷ is_thread ∷ is_trap ∷ []) (rule, (a, (thread, (trap-cleans, tt)))),
-      (refused-cleans (is (codes "rule") ∷ is (codes "l") ∷ is_thread ∷ is_identifier ∷ is_identifier ∷ is_trap ∷ []) (rule, (l, (thread, (name-cleans, (name-cleans, (trap-cleans, tt)))))),
-      (refused-cleans (is (codes "rule") ∷ is (codes "h") ∷ is_number ∷ is_number ∷ is_trap ∷ []) (rule, (h, (number, (number, (trap-cleans, tt))))), tt)))))))))))
+      (
+        refused-cleans (is (codes "size") ∷ []) (word-cleans (codes "size") refl, tt),
+        (
+          refused-cleans (is (codes "point") ∷ is_thread ∷ []) (word-cleans (codes "point") refl, (thread, tt)),
+          (
+            refused-cleans (is (codes "entry") ∷ is_thread ∷ []) (word-cleans (codes "entry") refl, (thread, tt)),
+            (
+              refused-cleans (is_place_fault ∷ is (codes "g") ∷ is_identifier ∷ is_number ∷ []) (fault-cleans, (g, (name-cleans, (number, tt)))),
+              (
+                refused-cleans (is_place_fault ∷ is (codes "a") ∷ is_thread ∷ []) (fault-cleans, (a, (thread, tt))),
+                (
+                  refused-cleans (is_place_fault ∷ is (codes "l") ∷ is_thread ∷ is_identifier ∷ is_identifier ∷ []) (fault-cleans, (l, (thread, (name-cleans, (name-cleans, tt))))),
+                  (
+                    refused-cleans (is_place_fault ∷ is (codes "h") ∷ is_number ∷ is_number ∷ []) (fault-cleans, (h, (number, (number, tt)))),
+                    (
+                      refused-cleans (is (codes "rule") ∷ is (codes "g") ∷ is_identifier ∷ is_number ∷ is_trap ∷ []) (rule, (g, (name-cleans, (number, (trap-cleans, tt))))),
+                      (
+                        refused-cleans (is (codes "rule") ∷ is (codes "a") ∷ is_thread ∷ is_trap ∷ []) (rule, (a, (thread, (trap-cleans, tt)))),
+                        (
+                          refused-cleans (is (codes "rule") ∷ is (codes "l") ∷ is_thread ∷ is_identifier ∷ is_identifier ∷ is_trap ∷ []) (rule, (l, (thread, (name-cleans, (name-cleans, (trap-cleans, tt)))))),
+                          (refused-cleans (is (codes "rule") ∷ is (codes "h") ∷ is_number ∷ is_number ∷ is_trap ∷ []) (rule, (h, (number, (number, (trap-cleans, tt))))), tt),
+                        ),
+                      ),
+                    ),
+                  ),
+                ),
+              ),
+            ),
+          ),
+        ),
+      ),
     )
 
 three-clean : (words : Words) (a b c : Bool) → (a ≡ true → AreClean words) → (b ≡ true → AreClean words) → (c ≡ true → AreClean words) → ((a || b) || c) ≡ true → AreClean words
@@ -193,11 +213,16 @@ mark-some kit (word ∷ words) holds = refl
 pub end-clean : (words : Words) → is_end words ≡ true → AreClean words
 end-clean words holds =
     let last = word-cleans (codes "end") refl in
-    of-one-clean ends words
-    ((last, (word-cleans (codes "main") refl, (value-cleans, tt))),
-    ((last, (word-cleans (codes "trap") refl, (number-cleans 64, (trap-cleans, tt)))),
-    ((last, (word-cleans (codes "stuck") refl, tt)),
-    ((last, (word-cleans (codes "budget") refl, tt)), tt))))
+    of-one-clean ends words (
+      (last, (word-cleans (codes "main") refl, (value-cleans, tt))),
+      (
+        (last, (word-cleans (codes "trap") refl, (number-cleans 64, (trap-cleans, tt)))),
+        (
+          (last, (word-cleans (codes "stuck") refl, tt)),
+          ((last, (word-cleans (codes "budget") refl, tt)), tt),
+        ),
+      ),
+    )
     holds
 
 pub end-some : (words : Words) → is_end words ≡ true → IsSomeWords words

@@ -63,13 +63,7 @@ pub fn take_end(text: &[u8]) -> Option<&[u8]>
 {
     match cut_at(text, b'\n') {
         None => None,
-        Some((line, behind)) => {
-            if is_end(line) {
-                Some(behind)
-            } else {
-                None
-            }
-        }
+        Some((line, behind)) => { if is_end(line) { Some(behind) } else { None } }
     }
 }
 
@@ -143,7 +137,12 @@ fn is_end(line: &[u8]) -> bool
         line,
         &[
             &[Part::Word("end"), Part::Word("main"), Part::Value],
-            &[Part::Word("end"), Part::Word("trap"), Part::Thread, Part::Trap],
+            &[
+                Part::Word("end"),
+                Part::Word("trap"),
+                Part::Thread,
+                Part::Trap,
+            ],
             &[Part::Word("end"), Part::Word("stuck")],
             &[Part::Word("end"), Part::Word("budget")],
         ],
@@ -151,16 +150,106 @@ fn is_end(line: &[u8]) -> bool
 }
 
 const REFUSALS: [&[Part<'static>]; 12] = [
-    &[Part::Word("close"), Part::Number, Part::Word("refused"), Part::Word("held")],
-    &[Part::Word("close"), Part::Number, Part::Word("refused"), Part::Word("size")],
-    &[Part::Word("close"), Part::Number, Part::Word("refused"), Part::Word("point"), Part::Thread],
-    &[Part::Word("close"), Part::Number, Part::Word("refused"), Part::Word("entry"), Part::Thread],
-    &[Part::Word("close"), Part::Number, Part::Word("refused"), Part::Fault, Part::Word("g"), Part::Name, Part::Number],
-    &[Part::Word("close"), Part::Number, Part::Word("refused"), Part::Fault, Part::Word("a"), Part::Thread],
-    &[Part::Word("close"), Part::Number, Part::Word("refused"), Part::Fault, Part::Word("l"), Part::Thread, Part::Name, Part::Name],
-    &[Part::Word("close"), Part::Number, Part::Word("refused"), Part::Fault, Part::Word("h"), Part::Number, Part::Number],
-    &[Part::Word("close"), Part::Number, Part::Word("refused"), Part::Word("rule"), Part::Word("g"), Part::Name, Part::Number, Part::Trap],
-    &[Part::Word("close"), Part::Number, Part::Word("refused"), Part::Word("rule"), Part::Word("a"), Part::Thread, Part::Trap],
-    &[Part::Word("close"), Part::Number, Part::Word("refused"), Part::Word("rule"), Part::Word("l"), Part::Thread, Part::Name, Part::Name, Part::Trap],
-    &[Part::Word("close"), Part::Number, Part::Word("refused"), Part::Word("rule"), Part::Word("h"), Part::Number, Part::Number, Part::Trap],
+    &[
+        Part::Word("close"),
+        Part::Number,
+        Part::Word("refused"),
+        Part::Word("held"),
+    ],
+    &[
+        Part::Word("close"),
+        Part::Number,
+        Part::Word("refused"),
+        Part::Word("size"),
+    ],
+    &[
+        Part::Word("close"),
+        Part::Number,
+        Part::Word("refused"),
+        Part::Word("point"),
+        Part::Thread,
+    ],
+    &[
+        Part::Word("close"),
+        Part::Number,
+        Part::Word("refused"),
+        Part::Word("entry"),
+        Part::Thread,
+    ],
+    &[
+        Part::Word("close"),
+        Part::Number,
+        Part::Word("refused"),
+        Part::Fault,
+        Part::Word("g"),
+        Part::Name,
+        Part::Number,
+    ],
+    &[
+        Part::Word("close"),
+        Part::Number,
+        Part::Word("refused"),
+        Part::Fault,
+        Part::Word("a"),
+        Part::Thread,
+    ],
+    &[
+        Part::Word("close"),
+        Part::Number,
+        Part::Word("refused"),
+        Part::Fault,
+        Part::Word("l"),
+        Part::Thread,
+        Part::Name,
+        Part::Name,
+    ],
+    &[
+        Part::Word("close"),
+        Part::Number,
+        Part::Word("refused"),
+        Part::Fault,
+        Part::Word("h"),
+        Part::Number,
+        Part::Number,
+    ],
+    &[
+        Part::Word("close"),
+        Part::Number,
+        Part::Word("refused"),
+        Part::Word("rule"),
+        Part::Word("g"),
+        Part::Name,
+        Part::Number,
+        Part::Trap,
+    ],
+    &[
+        Part::Word("close"),
+        Part::Number,
+        Part::Word("refused"),
+        Part::Word("rule"),
+        Part::Word("a"),
+        Part::Thread,
+        Part::Trap,
+    ],
+    &[
+        Part::Word("close"),
+        Part::Number,
+        Part::Word("refused"),
+        Part::Word("rule"),
+        Part::Word("l"),
+        Part::Thread,
+        Part::Name,
+        Part::Name,
+        Part::Trap,
+    ],
+    &[
+        Part::Word("close"),
+        Part::Number,
+        Part::Word("refused"),
+        Part::Word("rule"),
+        Part::Word("h"),
+        Part::Number,
+        Part::Number,
+        Part::Trap,
+    ],
 ];

@@ -44,11 +44,7 @@ pub fn read(alloc: Global, bytes: &[u8]) -> Result<Vec<u8>, JournalFault>
 }
 
 /// What stands behind the lines at the front that may stand there, whose turns are added.
-fn read_entries<'a>(
-    kit: Kit,
-    text: &'a [u8],
-    turns: &mut Vec<u8>,
-) -> Result<&'a [u8], AllocError>
+fn read_entries<'a>(kit: Kit, text: &'a [u8], turns: &mut Vec<u8>) -> Result<&'a [u8], AllocError>
     requires { turns.old.items ≡ [] }
     ensures { IfOk result (λ rest. ReadsEntries kit text.now rest.now turns.new.items) }
 {

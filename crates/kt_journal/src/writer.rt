@@ -14,12 +14,7 @@ use kt_world::mark::{Closed, End, Mark};
 use std::alloc::{AllocError, Global};
 
 /// The journal of these turns of the job and of the marks between them.
-pub fn write(
-    alloc: Global,
-    _job: &Job,
-    turns: &[u8],
-    marks: &[Mark],
-) -> Result<Vec<u8>, AllocError>
+pub fn write(alloc: Global, _job: &Job, turns: &[u8], marks: &[Mark]) -> Result<Vec<u8>, AllocError>
     ensures { IfOk result (λ text. text.items ≡ spec.journal_of turns.now marks.now) }
 {
     let mut text = Vec::from_slice(alloc, b"kit 1\n")?;

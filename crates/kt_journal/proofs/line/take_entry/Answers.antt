@@ -10,7 +10,7 @@ pub returns-then-count-len-clause-taken : goal.returns-then-count-len-clause-tak
 returns-then-count-len-clause-taken c =
     let many : most_turns < length c.args.turns.now.items + c.in-Some-stretch.count = omega (arith, c.len.ensures) in (
       none-many c.args.kit c.args.turns.now.items c.args.text.now c.in-Some.line.now c.in-Some.behind.now c.in-Some-stretch.thread c.in-Some-stretch.count
-      c.in-Some.ensures.1 c.in-Some.ensures.0 (sym c.stretch.ensures ∙ c.in-Some-stretch.is) many,
+          c.in-Some.ensures.1 c.in-Some.ensures.0 (sym c.stretch.ensures ∙ c.in-Some-stretch.is) many,
       refl,
     )
 
@@ -28,6 +28,6 @@ returns-then-is_mark-clause-taken c =
 pub returns-else-is_mark-clause-taken : goal.returns-else-is_mark-clause-taken
 returns-else-is_mark-clause-taken c = (
   none-other c.args.kit c.args.turns.now.items c.args.text.now c.in-Some.line.now c.in-Some.behind.now c.in-Some.ensures.1 c.in-Some.ensures.0
-  (sym c.stretch.ensures ∙ c.in-None-stretch.is) (sym c.is_mark.ensures ∙ c.if-is_mark.false),
+      (sym c.stretch.ensures ∙ c.in-None-stretch.is) (sym c.is_mark.ensures ∙ c.if-is_mark.false),
   refl,
 )
