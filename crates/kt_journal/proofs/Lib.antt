@@ -1,0 +1,11 @@
+pub mod Between
+pub mod Clean
+pub mod Entries
+pub mod Lines
+pub mod MainOnly
+pub mod Numbers
+pub mod Once
+pub mod SoFar
+pub mod Splitting
+pub mod Writing
+pub mod Turning

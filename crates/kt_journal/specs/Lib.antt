@@ -1,0 +1,5 @@
+pub mod Grammar
+pub mod Journal
+pub mod Reading
+pub mod Runs
+pub mod Written

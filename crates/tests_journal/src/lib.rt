@@ -1,0 +1,5 @@
+//! The tests of `kt_journal`, through its public calls.
+#![tactic(auto)]
+
+#[cfg(test)]
+mod texts;
