@@ -1,0 +1,38 @@
+-- What the code's answers say, against the definition of typing. Want of memory alone says nothing.
+use Rattle.std.specs.Prelude.{◌≡◌, ℕ, List, Option, Some, None, Result, Ok, Err}
+use Rattle.kt_typing.specs.declared.fault.Fault.{Fault}
+use Rattle.kt_typing.specs.Faults.{bad_type}
+use Rattle.kt_typing.specs.First.{earlier, misuse, first_fault, first_of_parts}
+use Rattle.kt_typing.specs.Forms.{Form, Parts, typed, operands, fitting}
+use Rattle.kt_typing.specs.Operands.{Operand}
+use Rattle.kt_exprs.specs.declared.refusal.Refusal.{Refusal}
+use Rattle.kt_exprs.specs.declared.refusal.Refusal.TheVariants as refusal
+
+-- what a rule gives, seen by this view, or its fault
+abbrev pub Follows : {X Y : Type 0} → (X → Y) → Result Y Fault → Result X Refusal → Type 0
+Follows view s (Ok x) = s ≡ Ok (view x)
+Follows view s (Err (refusal.Fault f)) = s ≡ Err f
+Follows view s (Err refusal.NoMemory) = Unit {0}
+
+-- what is there, or else a broken rule at a place
+abbrev pub found : {A : Type 0} → ℕ → Option A → Result A Fault
+found at None = Err (bad_type at)
+found at (Some x) = Ok x
+
+-- what an expression is, or its first fault
+abbrev pub Judges : {X : Type 0} → (X → Operand) → Form → Result X Refusal → Type 0
+Judges view e (Ok x) = typed e ≡ Some (view x)
+Judges view e (Err (refusal.Fault f)) = first_fault e ≡ Some f
+Judges view e (Err refusal.NoMemory) = Unit {0}
+
+-- what a part is, used as what it is used as, or its first fault
+abbrev pub JudgesPart : {X : Type 0} → (X → Operand) → (Operand → Option Fault) → Form → Result X Refusal → Type 0
+JudgesPart view wrong e (Ok x) = fitting wrong (typed e) ≡ Some (view x)
+JudgesPart view wrong e (Err (refusal.Fault f)) = earlier (first_fault e) (misuse wrong (typed e)) ≡ Some f
+JudgesPart view wrong e (Err refusal.NoMemory) = Unit {0}
+
+-- what all parts are, or their first fault
+abbrev pub JudgesParts : {X : Type 0} → (X → List Operand) → Parts → Result X Refusal → Type 0
+JudgesParts view ps (Ok xs) = operands ps ≡ Some (view xs)
+JudgesParts view ps (Err (refusal.Fault f)) = first_of_parts ps ≡ Some f
+JudgesParts view ps (Err refusal.NoMemory) = Unit {0}

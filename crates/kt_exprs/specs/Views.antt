@@ -1,0 +1,83 @@
+-- What the code's environments, operands and values stand for.
+use Rattle.std.specs.Prelude.{ℕ, ◌==◌, List, map, length, slice_get, Option, Some, None, option_and_then, unwrap_or}
+use Rattle.std.specs.Option.{option_map}
+use Rattle.std.specs.Map.{lookup}
+use Rattle.std.specs.Str.{bytes_eq}
+use Rattle.kt_grammar.specs.declared.keyword.RuleWord.{RuleWord}
+use Rattle.kt_grammar.specs.declared.keyword.RuleWord.TheVariants as word
+use Rattle.kt_tree.specs.Tree.{Constant', LocalRead, expression_of}
+use Rattle.kt_tree.specs.Kinds.{Scope, Head}
+use Rattle.kt_typing.specs.declared.fault.Fault.{Fault}
+use Rattle.kt_typing.specs.declared.standing.Standing.TheVariants as standing
+use Rattle.kt_typing.specs.Environment.{Environment, Meaning, Missing, Barred, Stands, Routine}
+use Rattle.kt_typing.specs.Faults.{unknown, bad_type, incomplete}
+use Rattle.kt_typing.specs.Operands.{Operand, Value, operand, of_type}
+use Rattle.kt_exprs.specs.declared.operand.Operand.{Operand as OperandCode}
+use Rattle.kt_exprs.specs.declared.operand.Value.{Value as ValueCode}
+use Rattle.kt_exprs.specs.declared.environment.Environment.{Environment as EnvironmentCode}
+use Rattle.kt_exprs.specs.declared.meaning.Head.{Head as HeadCode}
+use Rattle.kt_exprs.specs.declared.meaning.Meaning.{Meaning as MeaningCode}
+use Rattle.kt_exprs.specs.declared.meaning.Meaning.TheVariants as code
+use Rattle.kt_exprs.specs.declared.meaning.Dialect.{Dialect}
+use Rattle.kt_exprs.specs.declared.meaning.Dialect.TheVariants as dialect
+
+abbrev pub operand_of : OperandCode → Operand
+operand_of x = operand x.at x.standing x.ty (expression_of x.tree)
+
+abbrev pub value_of : ValueCode → Value
+value_of v = of_type v.ty (expression_of v.tree)
+
+abbrev pub head_of : HeadCode → Head
+head_of h = record { parameters = h.parameters.items; result = h.result }
+
+abbrev pub meaning_of : MeaningCode → Meaning
+meaning_of code.Missing = Missing
+meaning_of code.Barred = Barred
+meaning_of (code.Fixed what t c) = Stands what t (Constant' c t)
+meaning_of (code.Local x t) = Stands (standing.Local x) t (LocalRead x)
+meaning_of (code.Routine f) = Routine f
+
+-- what may be named, by what is kept of each name
+abbrev pub meant_by : Option MeaningCode → Meaning
+meant_by None = Missing
+meant_by (Some m) = meaning_of m
+
+abbrev pub number_by : Option ℕ → ℕ
+number_by None = 0
+number_by (Some n) = n
+
+-- an undefined struct in C files, and in rule code
+abbrev pub lacking_cells : Dialect → ℕ → Fault
+lacking_cells dialect.C at = incomplete at
+lacking_cells dialect.Rules at = bad_type at
+
+abbrev pub lacking_fields : Dialect → ℕ → ℕ → Fault
+lacking_fields dialect.C at named = incomplete at
+lacking_fields dialect.Rules at named = unknown named
+
+unfoldable pub scope_of : EnvironmentCode → Scope
+scope_of e = record {
+  types = e.types.now;
+  globals = e.globals.now;
+  literals = length e.literals.now.entries;
+  functions = map head_of e.functions.now;
+  names = length e.points.now.entries;
+  updates = e.updates;
+  locals = e.locals.now;
+  noted = e.noted;
+}
+
+unfoldable pub environment_of : EnvironmentCode → Environment
+environment_of e = record {
+  scope = scope_of e;
+  text = e.text;
+  pointer = λ t. option_and_then (λ p. p) (slice_get e.pointers.now t);
+  struct = λ n. lookup (λ k. bytes_eq n k.items) e.structs.now.entries;
+  name = λ n. meant_by (lookup (λ k. bytes_eq n k.items) e.names.now.entries);
+  word = λ w. elim w as (λ _. Meaning) [ word.In ↦ meaning_of e.input | word.Out ↦ meaning_of e.output | word.Base ↦ meaning_of e.base ];
+  old_symbol = λ n. meant_by (lookup (λ k. bytes_eq n k.items) e.old_symbols.now.entries);
+  literal = λ at. number_by (lookup (λ k. at == k) e.literals.now.entries);
+  point = λ n. number_by (lookup (λ k. bytes_eq n k.items) e.points.now.entries);
+  without_cells = lacking_cells e.dialect;
+  without_fields = lacking_fields e.dialect;
+}

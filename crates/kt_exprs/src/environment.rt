@@ -1,0 +1,199 @@
+//! What an expression is typed in.
+
+ghost use Rattle.std.specs.Prelude.{◌≡◌, slice_get};
+ghost use Rattle.std.specs.Option.{option_map, option_copied};
+ghost use Rattle.kt_tree.specs.Kinds.{is_integer, pointee, is_pointer, is_scalar, points_to, is_comparable, common, is_complete};
+ghost use Rattle.kt_exprs.specs.Views.{environment_of, scope_of, head_of, meaning_of};
+
+use crate::meaning::{Dialect, Head, Meaning};
+use indexmap::IndexMap;
+use kt_grammar::RuleWord;
+use kt_types::{Ty, TypeTable};
+use std::alloc::Global;
+
+/// What an expression is typed in: the table of types as it stands there, and what is kept of each name.
+#[derive(Drop)]
+pub struct Environment<'f> {
+    pub alloc: Global,
+    pub types: &'f TypeTable,
+    /// The type `char *`.
+    pub text: u32,
+    /// For each type the type of pointers to it, where the table has it.
+    pub pointers: &'f [Option<u32>],
+    /// The types of structs by their names.
+    pub structs: &'f IndexMap<Vec<u8>, u32>,
+    /// The element type of each global.
+    pub globals: &'f [u32],
+    /// The numbers of literals by their places in the file.
+    pub literals: &'f IndexMap<u32, u32>,
+    pub functions: &'f [Head],
+    /// The numbers of all names of points, and how many of them are update points.
+    pub points: &'f IndexMap<Vec<u8>, u32>,
+    pub updates: u32,
+    /// The type of each local, and whether an update may keep them.
+    pub locals: &'f [u32],
+    pub noted: bool,
+    pub names: &'f IndexMap<Vec<u8>, Meaning>,
+    /// What `$in`, `$out`, `$base` and `$oldsym(g)` stand for.
+    pub input: Meaning,
+    pub output: Meaning,
+    pub base: Meaning,
+    pub old_symbols: &'f IndexMap<Vec<u8>, Meaning>,
+    pub dialect: Dialect,
+}
+
+impl Environment<'_> {
+    /// Whether the type is an integer type.
+    #[tactic(auto, unfolding(crate::specs::Views::scope_of))]
+    pub fn is_integer(&self, t: u32) -> bool
+        ensures { result ≡ is_integer (scope_of self.now) t }
+    {
+        match self.types.get(t) {
+            Some(Ty::Char) => true,
+            Some(Ty::Int) => true,
+            Some(Ty::Long) => true,
+            _ => false,
+        }
+    }
+
+    /// What a pointer of the type points to; none where it is no pointer.
+    #[tactic(auto, unfolding(crate::specs::Views::scope_of))]
+    pub fn pointee(&self, t: u32) -> Option<u32>
+        ensures { result ≡ pointee (scope_of self.now) t }
+    {
+        match self.types.get(t) {
+            Some(Ty::Ptr(e)) => Some(e),
+            _ => None,
+        }
+    }
+
+    /// Whether the type is a pointer type.
+    pub fn is_pointer(&self, t: u32) -> bool
+        ensures { result ≡ is_pointer (scope_of self.now) t }
+    {
+        self.pointee(t).is_some()
+    }
+
+    /// Whether the type is what a local may hold and a condition takes.
+    pub fn is_scalar(&self, t: u32) -> bool
+        ensures { result ≡ is_scalar (scope_of self.now) t }
+    {
+        self.is_integer(t) || self.is_pointer(t)
+    }
+
+    /// Whether the type is that of pointers to the other.
+    pub fn points_to(&self, t: u32, e: u32) -> bool
+        ensures { result ≡ points_to (scope_of self.now) t e }
+    {
+        match self.pointee(t) {
+            Some(p) => p == e,
+            None => false,
+        }
+    }
+
+    /// Whether they are two integers, or two pointers of one type.
+    pub fn is_comparable(&self, a: u32, b: u32) -> bool
+        ensures { result ≡ is_comparable (scope_of self.now) a b }
+    {
+        (self.is_integer(a) && self.is_integer(b)) || (self.is_pointer(a) && a == b)
+    }
+
+    /// Whether the type is complete.
+    #[tactic(auto, unfolding(crate::specs::Views::scope_of))]
+    pub fn is_complete(&self, t: u32) -> bool
+        ensures { result ≡ is_complete (scope_of self.now) t }
+    {
+        self.types.is_complete(t)
+    }
+
+    /// The type of pointers to the type.
+    #[tactic(auto, unfolding(crate::specs::Views::environment_of))]
+    pub fn pointer(&self, t: u32) -> Option<u32>
+        ensures { result ≡ (environment_of self.now).pointer t }
+    {
+        match self.pointers.get(t as usize) {
+            Some(p) => *p,
+            None => None,
+        }
+    }
+
+    /// The type of the struct of a name.
+    #[tactic(auto, unfolding(crate::specs::Views::environment_of))]
+    pub fn struct_named(&self, name: &[u8]) -> Option<u32>
+        ensures { result ≡ (environment_of self.now).struct name.now }
+    {
+        self.structs.get(name).copied()
+    }
+
+    /// What a name stands for.
+    #[tactic(auto, unfolding(crate::specs::Views::environment_of))]
+    pub fn named(&self, name: &[u8]) -> Meaning
+        ensures { meaning_of result ≡ (environment_of self.now).name name.now }
+    {
+        match self.names.get(name) {
+            Some(meaning) => *meaning,
+            None => Meaning::Missing,
+        }
+    }
+
+    /// What `$in`, `$out` or `$base` stands for.
+    #[tactic(auto, unfolding(crate::specs::Views::environment_of))]
+    pub fn word(&self, word: RuleWord) -> Meaning
+        ensures { meaning_of result ≡ (environment_of self.now).word word }
+    {
+        match word {
+            RuleWord::In => self.input,
+            RuleWord::Out => self.output,
+            RuleWord::Base => self.base,
+        }
+    }
+
+    /// What `$oldsym` of a name stands for.
+    #[tactic(auto, unfolding(crate::specs::Views::environment_of))]
+    pub fn old_symbol(&self, name: &[u8]) -> Meaning
+        ensures { meaning_of result ≡ (environment_of self.now).old_symbol name.now }
+    {
+        match self.old_symbols.get(name) {
+            Some(meaning) => *meaning,
+            None => Meaning::Missing,
+        }
+    }
+
+    /// The number of the literal at a place.
+    #[tactic(auto, unfolding(crate::specs::Views::environment_of))]
+    pub fn literal(&self, at: u32) -> u32
+        ensures { result ≡ (environment_of self.now).literal at }
+    {
+        match self.literals.get(&at) {
+            Some(number) => *number,
+            None => 0,
+        }
+    }
+
+    /// The number of a name of points.
+    #[tactic(auto, unfolding(crate::specs::Views::environment_of))]
+    pub fn point(&self, name: &[u8]) -> u32
+        ensures { result ≡ (environment_of self.now).point name.now }
+    {
+        match self.points.get(name) {
+            Some(number) => *number,
+            None => 0,
+        }
+    }
+
+    /// The head of the function of a number.
+    #[tactic(auto, unfolding(crate::specs::Views::scope_of))]
+    pub fn head(&self, function: u32) -> Option<&Head>
+        ensures { option_map (λ h. head_of h.now) result ≡ slice_get (scope_of self.now).functions function }
+    {
+        self.functions.get(function as usize)
+    }
+
+    /// The type of the local of a number.
+    #[tactic(auto, unfolding(crate::specs::Views::scope_of))]
+    pub fn local(&self, local: u32) -> Option<u32>
+        ensures { result ≡ slice_get (scope_of self.now).locals local }
+    {
+        self.locals.get(local as usize).copied()
+    }
+}
