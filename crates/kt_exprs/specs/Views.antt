@@ -74,7 +74,7 @@ environment_of e = record {
   pointer = λ t. option_and_then (λ p. p) (slice_get e.pointers.now t);
   struct = λ n. lookup (λ k. bytes_eq n k.items) e.structs.now.entries;
   name = λ n. meant_by (lookup (λ k. bytes_eq n k.items) e.names.now.entries);
-  word = λ w. elim w as (λ _. Meaning) [ word.In ↦ meaning_of e.input | word.Out ↦ meaning_of e.output | word.Base ↦ meaning_of e.base ];
+  word = λ w. elim w as (λ _. Meaning) [ word.In ↦ meaning_of e.input | word.Out ↦ meaning_of e.output | word.Base ↦ meaning_of e.base | _ ↦ Missing ];
   old_symbol = λ n. meant_by (lookup (λ k. bytes_eq n k.items) e.old_symbols.now.entries);
   literal = λ at. number_by (lookup (λ k. at == k) e.literals.now.entries);
   point = λ n. number_by (lookup (λ k. bytes_eq n k.items) e.points.now.entries);

@@ -145,6 +145,8 @@ impl Environment<'_> {
             RuleWord::In => self.input,
             RuleWord::Out => self.output,
             RuleWord::Base => self.base,
+            RuleWord::OldSymbol => Meaning::Missing,
+            RuleWord::Transform => Meaning::Missing,
         }
     }
 
