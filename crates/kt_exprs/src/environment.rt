@@ -2,13 +2,14 @@
 
 ghost use Rattle.std.specs.Prelude.{◌≡◌, slice_get};
 ghost use Rattle.std.specs.Option.{option_map, option_copied};
-ghost use Rattle.kt_tree.specs.Kinds.{is_integer, pointee, is_pointer, is_scalar, points_to, is_comparable, common, is_complete};
+ghost use Rattle.kt_tree.specs.Kinds.{is_integer, pointee, is_pointer, is_scalar, points_to, is_comparable, is_complete, type_at, field_at, field_pointee_of};
+ghost use Rattle.kt_types.specs.Table.{fields_of};
 ghost use Rattle.kt_exprs.specs.Views.{environment_of, scope_of, head_of, meaning_of};
 
 use crate::meaning::{Dialect, Head, Meaning};
 use indexmap::IndexMap;
 use kt_grammar::RuleWord;
-use kt_types::{Ty, TypeTable};
+use kt_types::{FieldDecl, Ty, TypeTable};
 use std::alloc::Global;
 
 /// What an expression is typed in: the table of types as it stands there, and what is kept of each name.
@@ -43,6 +44,41 @@ pub struct Environment<'f> {
 }
 
 impl Environment<'_> {
+    /// The type at a place.
+    #[tactic(auto, unfolding(crate::specs::Views::scope_of))]
+    pub fn ty(&self, t: u32) -> Option<Ty>
+        ensures { result ≡ type_at (scope_of self.now) t }
+    {
+        self.types.get(t)
+    }
+
+    /// The fields of the struct of a number, where it is defined.
+    #[tactic(auto, unfolding(crate::specs::Views::scope_of))]
+    pub fn fields(&self, number: u32) -> Option<&[FieldDecl]>
+        ensures { option_copied result ≡ fields_of (scope_of self.now).types number }
+    {
+        self.types.fields(number)
+    }
+
+    /// The type of the field of a number of the struct of a number.
+    pub fn field_type(&self, number: u32, index: u32) -> Option<u32>
+        ensures { result ≡ option_map (λ f. f.ty) (field_at (scope_of self.now) number index) }
+    {
+        let fields = self.fields(number)?;
+        let field = fields.get(index as usize)?;
+        Some(field.ty)
+    }
+
+    /// What a pointer to a field of the type points to: the field, or the first element where it is an array.
+    pub fn field_pointee(&self, t: u32) -> u32
+        ensures { result ≡ field_pointee_of (type_at (scope_of self.now) t) t }
+    {
+        match self.ty(t) {
+            Some(Ty::Array(e, _)) => e,
+            _ => t,
+        }
+    }
+
     /// Whether the type is an integer type.
     #[tactic(auto, unfolding(crate::specs::Views::scope_of))]
     pub fn is_integer(&self, t: u32) -> bool

@@ -4,7 +4,9 @@
 mod environment;
 mod meaning;
 mod operand;
+mod operations;
 mod refusal;
+mod types;
 
 pub use environment::Environment;
 pub use meaning::{Dialect, Head, Meaning};
