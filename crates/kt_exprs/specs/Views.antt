@@ -67,17 +67,48 @@ scope_of e = record {
   noted = e.noted;
 }
 
-unfoldable pub environment_of : EnvironmentCode → Environment
+unfoldable pub pointer_by : EnvironmentCode → ℕ → Option ℕ
+pointer_by e t = option_and_then (λ p. p) (slice_get e.pointers.now t)
+
+unfoldable pub struct_by : EnvironmentCode → List ℕ → Option ℕ
+struct_by e n = lookup (λ k. bytes_eq n k.items) e.structs.now.entries
+
+unfoldable pub name_by : EnvironmentCode → List ℕ → Meaning
+name_by e n = meant_by (lookup (λ k. bytes_eq n k.items) e.names.now.entries)
+
+unfoldable pub word_by : EnvironmentCode → RuleWord → Meaning
+word_by e word.In = meaning_of e.input
+word_by e word.Out = meaning_of e.output
+word_by e word.Base = meaning_of e.base
+word_by e word.OldSymbol = Missing
+word_by e word.Transform = Missing
+
+unfoldable pub old_symbol_by : EnvironmentCode → List ℕ → Meaning
+old_symbol_by e n = meant_by (lookup (λ k. bytes_eq n k.items) e.old_symbols.now.entries)
+
+unfoldable pub literal_by : EnvironmentCode → ℕ → ℕ
+literal_by e at = number_by (lookup (λ k. at == k) e.literals.now.entries)
+
+unfoldable pub point_by : EnvironmentCode → List ℕ → ℕ
+point_by e n = number_by (lookup (λ k. bytes_eq n k.items) e.points.now.entries)
+
+unfoldable pub cells_by : EnvironmentCode → ℕ → Fault
+cells_by e = lacking_cells e.dialect
+
+unfoldable pub fields_by : EnvironmentCode → ℕ → ℕ → Fault
+fields_by e = lacking_fields e.dialect
+
+abbrev pub environment_of : EnvironmentCode → Environment
 environment_of e = record {
   scope = scope_of e;
   text = e.text;
-  pointer = λ t. option_and_then (λ p. p) (slice_get e.pointers.now t);
-  struct = λ n. lookup (λ k. bytes_eq n k.items) e.structs.now.entries;
-  name = λ n. meant_by (lookup (λ k. bytes_eq n k.items) e.names.now.entries);
-  word = λ w. elim w as (λ _. Meaning) [ word.In ↦ meaning_of e.input | word.Out ↦ meaning_of e.output | word.Base ↦ meaning_of e.base | _ ↦ Missing ];
-  old_symbol = λ n. meant_by (lookup (λ k. bytes_eq n k.items) e.old_symbols.now.entries);
-  literal = λ at. number_by (lookup (λ k. at == k) e.literals.now.entries);
-  point = λ n. number_by (lookup (λ k. bytes_eq n k.items) e.points.now.entries);
-  without_cells = lacking_cells e.dialect;
-  without_fields = lacking_fields e.dialect;
+  pointer = pointer_by e;
+  struct = struct_by e;
+  name = name_by e;
+  word = word_by e;
+  old_symbol = old_symbol_by e;
+  literal = literal_by e;
+  point = point_by e;
+  without_cells = cells_by e;
+  without_fields = fields_by e;
 }

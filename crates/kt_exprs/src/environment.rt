@@ -1,6 +1,6 @@
 //! What an expression is typed in.
 
-ghost use Rattle.std.specs.Prelude.{◌≡◌, slice_get};
+ghost use Rattle.std.specs.Prelude.{◌≡◌, ◌&&◌, nat_lt, length, slice_get};
 ghost use Rattle.std.specs.Option.{option_map, option_copied};
 ghost use Rattle.kt_tree.specs.Kinds.{is_integer, pointee, is_pointer, is_scalar, points_to, is_comparable, is_complete, type_at, field_at, field_pointee_of};
 ghost use Rattle.kt_types.specs.Table.{fields_of};
@@ -9,6 +9,7 @@ ghost use Rattle.kt_exprs.specs.Views.{environment_of, scope_of, head_of, meanin
 use crate::meaning::{Dialect, Head, Meaning};
 use indexmap::IndexMap;
 use kt_grammar::RuleWord;
+use kt_typing::{Fault, Kind};
 use kt_types::{FieldDecl, Ty, TypeTable};
 use std::alloc::Global;
 
@@ -143,7 +144,7 @@ impl Environment<'_> {
     }
 
     /// The type of pointers to the type.
-    #[tactic(auto, unfolding(crate::specs::Views::environment_of))]
+    #[tactic(auto, unfolding(crate::specs::Views::pointer_by))]
     pub fn pointer(&self, t: u32) -> Option<u32>
         ensures { result ≡ (environment_of self.now).pointer t }
     {
@@ -154,7 +155,7 @@ impl Environment<'_> {
     }
 
     /// The type of the struct of a name.
-    #[tactic(auto, unfolding(crate::specs::Views::environment_of))]
+    #[tactic(auto, unfolding(crate::specs::Views::struct_by))]
     pub fn struct_named(&self, name: &[u8]) -> Option<u32>
         ensures { result ≡ (environment_of self.now).struct name.now }
     {
@@ -162,7 +163,7 @@ impl Environment<'_> {
     }
 
     /// What a name stands for.
-    #[tactic(auto, unfolding(crate::specs::Views::environment_of))]
+    #[tactic(auto, unfolding(crate::specs::Views::name_by))]
     pub fn named(&self, name: &[u8]) -> Meaning
         ensures { meaning_of result ≡ (environment_of self.now).name name.now }
     {
@@ -173,7 +174,7 @@ impl Environment<'_> {
     }
 
     /// What `$in`, `$out` or `$base` stands for.
-    #[tactic(auto, unfolding(crate::specs::Views::environment_of))]
+    #[tactic(auto, unfolding(crate::specs::Views::word_by))]
     pub fn word(&self, word: RuleWord) -> Meaning
         ensures { meaning_of result ≡ (environment_of self.now).word word }
     {
@@ -187,7 +188,7 @@ impl Environment<'_> {
     }
 
     /// What `$oldsym` of a name stands for.
-    #[tactic(auto, unfolding(crate::specs::Views::environment_of))]
+    #[tactic(auto, unfolding(crate::specs::Views::old_symbol_by))]
     pub fn old_symbol(&self, name: &[u8]) -> Meaning
         ensures { meaning_of result ≡ (environment_of self.now).old_symbol name.now }
     {
@@ -198,7 +199,7 @@ impl Environment<'_> {
     }
 
     /// The number of the literal at a place.
-    #[tactic(auto, unfolding(crate::specs::Views::environment_of))]
+    #[tactic(auto, unfolding(crate::specs::Views::literal_by))]
     pub fn literal(&self, at: u32) -> u32
         ensures { result ≡ (environment_of self.now).literal at }
     {
@@ -209,7 +210,7 @@ impl Environment<'_> {
     }
 
     /// The number of a name of points.
-    #[tactic(auto, unfolding(crate::specs::Views::environment_of))]
+    #[tactic(auto, unfolding(crate::specs::Views::point_by))]
     pub fn point(&self, name: &[u8]) -> u32
         ensures { result ≡ (environment_of self.now).point name.now }
     {
@@ -225,6 +226,72 @@ impl Environment<'_> {
         ensures { option_map (λ h. head_of h.now) result ≡ slice_get (scope_of self.now).functions function }
     {
         self.functions.get(function as usize)
+    }
+
+    /// Whether a name of points has the number.
+    #[tactic(auto, unfolding(crate::specs::Views::scope_of))]
+    pub fn is_name(&self, number: u32) -> bool
+        ensures { result ≡ nat_lt number (scope_of self.now).names }
+    {
+        (number as usize) < self.points.len()
+    }
+
+    /// Whether the point of the number is an update point.
+    #[tactic(auto, unfolding(crate::specs::Views::scope_of))]
+    pub fn is_update(&self, number: u32) -> bool
+        ensures { result ≡ nat_lt number (scope_of self.now).updates }
+    {
+        number < self.updates
+    }
+
+    /// Whether a literal has the number.
+    #[tactic(auto, unfolding(crate::specs::Views::scope_of))]
+    pub fn is_literal(&self, number: u32) -> bool
+        ensures { result ≡ nat_lt number (scope_of self.now).literals }
+    {
+        (number as usize) < self.literals.len()
+    }
+
+    /// Whether an update may keep the local of the number.
+    #[tactic(auto, unfolding(crate::specs::Views::scope_of))]
+    pub fn keeps(&self, local: u32) -> bool
+        ensures { result ≡ ((scope_of self.now).noted && nat_lt local (length (scope_of self.now).locals)) }
+    {
+        self.noted && (local as usize) < self.locals.len()
+    }
+
+    /// What is told where an expression that begins at the place needs the cells of a struct without a definition.
+    #[tactic(auto, unfolding(crate::specs::Views::cells_by))]
+    pub fn without_cells(&self, at: u32) -> Fault
+        ensures { result ≡ (environment_of self.now).without_cells at }
+    {
+        match self.dialect {
+            Dialect::C => Fault {
+                at,
+                kind: Kind::Incomplete,
+            },
+            Dialect::Rules => Fault {
+                at,
+                kind: Kind::BadType,
+            },
+        }
+    }
+
+    /// What is told where such an expression names a field of it at the second place.
+    #[tactic(auto, unfolding(crate::specs::Views::fields_by))]
+    pub fn without_fields(&self, at: u32, named: u32) -> Fault
+        ensures { result ≡ (environment_of self.now).without_fields at named }
+    {
+        match self.dialect {
+            Dialect::C => Fault {
+                at,
+                kind: Kind::Incomplete,
+            },
+            Dialect::Rules => Fault {
+                at: named,
+                kind: Kind::Unknown,
+            },
+        }
     }
 
     /// The type of the local of a number.

@@ -1,11 +1,15 @@
 //! Typing of expressions of C files and rule code: the code beside the definition of `kt_typing`.
 #![tactic(auto)]
 
+mod convert;
 mod environment;
+mod given;
 mod meaning;
 mod operand;
 mod operations;
 mod refusal;
+mod requests;
+mod tree;
 mod types;
 
 pub use environment::Environment;
