@@ -37,5 +37,3 @@ module _ {E : Type 0} (r : Result Expr E) (t : ℕ) (tree : Expr) where
       subst (λ n. IfOk r (λ x. expression_of x ≡ n))
       (ap (λ x. Chosen (expression_of c) t x (expression_of other)) i ∙ ap (Chosen (expression_of c) t (null_tree t (expression_of a))) j
       ∙ sym (ap (null_tree t) (choice_form c own a b)) ∙ ap (λ y. null_tree t (expression_of y)) is)
-
-pub ruleset nulls = (null_other, null_chosen)

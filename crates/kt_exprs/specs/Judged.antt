@@ -19,6 +19,11 @@ abbrev pub found : {A : Type 0} → ℕ → Option A → Result A Fault
 found at None = Err (bad_type at)
 found at (Some x) = Ok x
 
+-- two that are there both
+abbrev pub found_two : {A B : Type 0} → ℕ → Option A → Option B → Result (A × B) Fault
+found_two at (Some x) (Some y) = Ok (x, y)
+found_two at _ _ = Err (bad_type at)
+
 -- what an expression is, or its first fault
 abbrev pub Judges : {X : Type 0} → (X → Operand) → Form → Result X Refusal → Type 0
 Judges view e (Ok x) = typed e ≡ Some (view x)

@@ -12,6 +12,8 @@ use Rattle.kt_typing.specs.declared.standing.Standing.TheVariants as standing
 use Rattle.kt_typing.specs.Environment.{Environment, Meaning, Missing, Barred, Stands, Routine}
 use Rattle.kt_typing.specs.Faults.{unknown, bad_type, incomplete}
 use Rattle.kt_typing.specs.Operands.{Operand, Value, operand, of_type}
+use Rattle.kt_typing.specs.Rules.{Combined, combined}
+use Rattle.kt_exprs.specs.declared.arithmetic.Combined.{Combined as CombinedCode}
 use Rattle.kt_exprs.specs.declared.operand.Operand.{Operand as OperandCode}
 use Rattle.kt_exprs.specs.declared.operand.Value.{Value as ValueCode}
 use Rattle.kt_exprs.specs.declared.environment.Environment.{Environment as EnvironmentCode}
@@ -26,6 +28,12 @@ operand_of x = operand x.at x.standing x.ty (expression_of x.tree)
 
 abbrev pub value_of : ValueCode → Value
 value_of v = of_type v.ty (expression_of v.tree)
+
+abbrev pub values_of : ValueCode × ValueCode → Value × Value
+values_of p = (value_of p.0, value_of p.1)
+
+abbrev pub combined_of : CombinedCode → Combined
+combined_of c = combined c.operation c.own
 
 abbrev pub head_of : HeadCode → Head
 head_of h = record { parameters = h.parameters.items; result = h.result }

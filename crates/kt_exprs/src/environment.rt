@@ -1,16 +1,17 @@
 //! What an expression is typed in.
 
-ghost use Rattle.std.specs.Prelude.{◌≡◌, ◌&&◌, nat_lt, length, slice_get};
+ghost use Rattle.std.specs.Prelude.{◌≡◌, ◌&&◌, nat_lt, length, slice_get, option_and_then};
 ghost use Rattle.std.specs.Option.{option_map, option_copied};
-ghost use Rattle.kt_tree.specs.Kinds.{is_integer, pointee, is_pointer, is_scalar, points_to, is_comparable, is_complete, type_at, field_at, field_pointee_of};
+ghost use Rattle.kt_tree.specs.Kinds.{is_integer, pointee, is_pointer, is_scalar, points_to, is_comparable, is_complete, type_at, is_array_type, field_at, field_pointee_of};
 ghost use Rattle.kt_types.specs.Table.{fields_of};
+ghost use Rattle.kt_types.specs.Layout.{field_named};
 ghost use Rattle.kt_exprs.specs.Views.{environment_of, scope_of, head_of, meaning_of};
 
 use crate::meaning::{Dialect, Head, Meaning};
 use indexmap::IndexMap;
 use kt_grammar::RuleWord;
 use kt_typing::{Fault, Kind};
-use kt_types::{FieldDecl, Ty, TypeTable};
+use kt_types::{Field, FieldDecl, Ty, TypeTable};
 use std::alloc::Global;
 
 /// What an expression is typed in: the table of types as it stands there, and what is kept of each name.
@@ -68,6 +69,21 @@ impl Environment<'_> {
         let fields = self.fields(number)?;
         let field = fields.get(index as usize)?;
         Some(field.ty)
+    }
+
+    /// Whether the type is an array type.
+    pub fn is_array(&self, t: u32) -> bool
+        ensures { result ≡ is_array_type (type_at (scope_of self.now) t) }
+    {
+        matches!(self.ty(t), Some(Ty::Array(_, _)))
+    }
+
+    /// The field of a name of the struct of a number, where it is defined and has one.
+    #[tactic(auto, unfolding(crate::specs::Views::scope_of))]
+    pub fn field_named(&self, number: u32, name: &[u8]) -> Option<Field>
+        ensures { result ≡ option_and_then (λ fields. field_named (scope_of self.now).types fields name.now) (fields_of (scope_of self.now).types number) }
+    {
+        self.types.field_at(number, name)
     }
 
     /// What a pointer to a field of the type points to: the field, or the first element where it is an array.

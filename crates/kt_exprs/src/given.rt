@@ -3,7 +3,7 @@
 ghost use Rattle.std.specs.Prelude.{◌≡◌, List, [], ◌∷◌, Ok, Some};
 ghost use Rattle.kt_tree.specs.Tree.{expression_of, expressions_of};
 ghost use Rattle.kt_tree.specs.Typed.{kind_of};
-ghost use Rattle.kt_typing.specs.Operands.{Value, types_of, trees_of};
+ghost use Rattle.kt_typing.specs.Operands.{Value as Worth, types_of, trees_of};
 ghost use Rattle.kt_tree.specs.declared.expr.Request.TheVariants as request;
 ghost use Rattle.kt_typing.specs.Rules.{given, operated, requested};
 ghost use Rattle.kt_exprs.specs.Judged.{Follows};
@@ -84,7 +84,7 @@ fn requested_with(
     types: &[u32],
     operands: Items<Expr>,
 ) -> Result<Operand, Refusal>
-    ensures { (vs : List Value) → types_of vs ≡ types.now → trees_of vs ≡ expressions_of operands → Follows operand_of (requested (environment_of env.now) at request ty vs) result }
+    ensures { (vs : List Worth) → types_of vs ≡ types.now → trees_of vs ≡ expressions_of operands → Follows operand_of (requested (environment_of env.now) at request ty vs) result }
 {
     if !env.takes_request(&request, ty, types) {
         drop((request, operands));

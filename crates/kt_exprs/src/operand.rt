@@ -1,7 +1,7 @@
 //! What an expression is to the one around it, and the value that it has (ISO/IEC 9899:2011, 6.3.2).
 
 ghost use Rattle.std.specs.Prelude.{◌≡◌, Err};
-ghost use Rattle.kt_typing.specs.Faults.{bad_type};
+ghost use Rattle.kt_typing.specs.Faults.{bad_type, unknown};
 ghost use Rattle.kt_typing.specs.Operands.{of_type, valued, nothing, loaded, value, scalar};
 ghost use Rattle.kt_typing.specs.Rules.{is_null, is_null_itself};
 ghost use Rattle.std.specs.Option.{option_map};
@@ -43,6 +43,16 @@ pub(crate) fn bad_type(at: u32) -> Refusal
     Refusal::Fault(Fault {
         at,
         kind: Kind::BadType,
+    })
+}
+
+/// A name or field that there isn't, at a place.
+pub(crate) fn unknown(at: u32) -> Refusal
+    ensures { result ≡ refusal.Fault (unknown at) }
+{
+    Refusal::Fault(Fault {
+        at,
+        kind: Kind::Unknown,
     })
 }
 
@@ -109,8 +119,8 @@ pub(crate) fn is_null_itself(standing: Standing) -> bool
 }
 
 impl Operand {
-    // The type and the tree, as a value of that type.
-    fn as_value(self) -> Value
+    /// The type and the tree, as a value of that type.
+    pub(crate) fn as_value(self) -> Value
         ensures { value_of result ≡ of_type self.ty (expression_of self.tree) }
     {
         Value {

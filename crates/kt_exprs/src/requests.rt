@@ -9,7 +9,6 @@ ghost use Rattle.kt_exprs.specs.Views.{scope_of, head_of};
 use crate::environment::Environment;
 use crate::types::{CHAR, INT, LONG, MUTEX};
 use kt_tree::{Part, Request};
-use kt_types::Ty;
 
 // It gives an `int` and takes nothing.
 fn asks_nothing(t: Option<u32>, operands: &[u32]) -> bool
@@ -110,7 +109,7 @@ impl Environment<'_> {
     fn is_allocated(&self, t: u32, e: u32) -> bool
         ensures { result ≡ (points_to (scope_of self.now) t e && is_complete (scope_of self.now) e && not (is_array_type (type_at (scope_of self.now) e))) }
     {
-        self.points_to(t, e) && self.is_complete(e) && !matches!(self.ty(e), Some(Ty::Array(_, _)))
+        self.points_to(t, e) && self.is_complete(e) && !self.is_array(e)
     }
 
     /// Whether the request takes operands of these types and gives this type, or nothing.

@@ -156,7 +156,6 @@ pub(crate) fn called(
 }
 
 /// Null as a pointer of the type; a choice of null and null still evaluates its condition.
-#[tactic(auto, using(crate::proofs::Trees::nulls))]
 pub(crate) fn null_tree(
     tree: Boxed<Expr>,
     alloc: Global,
