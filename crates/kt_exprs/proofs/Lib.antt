@@ -1,3 +1,5 @@
 pub mod Pairs
+pub mod Parts
 pub mod Steps
+pub mod Syntax
 pub mod Trees
