@@ -1,5 +1,0 @@
-pub mod Pairs
-pub mod Parts
-pub mod Steps
-pub mod Syntax
-pub mod Trees

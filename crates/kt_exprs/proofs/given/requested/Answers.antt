@@ -1,6 +1,0 @@
-use Rattle.std.proofs.Common.{[], refl, sym, ap}
-use Rattle.kt_tree.specs.Tree.{expressions_of}
-use Rattle.kt_exprs.proofs.given.requested.Goals as goal
-
-pub returns : goal.returns
-returns c = c.requested_with.ensures [] refl (ap expressions_of (sym c.new.ensures))

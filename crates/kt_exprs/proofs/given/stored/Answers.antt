@@ -1,7 +1,0 @@
-use Rattle.std.proofs.Common.{[], ◌∷◌, refl, sym, ap}
-use Rattle.kt_tree.specs.Tree.{expressions_of}
-use Rattle.kt_exprs.specs.Views.{value_of}
-use Rattle.kt_exprs.proofs.given.stored.Goals as goal
-
-pub returns : goal.returns
-returns c = c.requested_with.ensures (value_of c.args.pointer ∷ value_of c.args.value ∷ []) refl (ap expressions_of (sym c.in_ok-operands.ensures))
