@@ -13,11 +13,7 @@ use kt_tree::Operation;
 use std::alloc::AllocError;
 
 /// Null as a value of a pointer type.
-pub fn null_value(
-    env: &Environment<'_>,
-    ty: u32,
-    operand: Operand,
-) -> Result<Value, AllocError>
+pub fn null_value(env: &Environment<'_>, ty: u32, operand: Operand) -> Result<Value, AllocError>
     ensures { IfOk result (λ v. value_of v ≡ null_value ty (operand_of operand)) }
 {
     let tree = tree::null_tree(operand.tree, env.alloc, ty)?;
@@ -25,12 +21,7 @@ pub fn null_value(
 }
 
 /// The value as one of a type: of the same type, or of an integer type by its number.
-pub fn converted(
-    env: &Environment<'_>,
-    at: u32,
-    ty: u32,
-    value: Value,
-) -> Result<Value, Refusal>
+pub fn converted(env: &Environment<'_>, at: u32, ty: u32, value: Value) -> Result<Value, Refusal>
     ensures { Follows value_of (found at (converted (scope_of env.now) ty (value_of value))) result }
 {
     if value.ty == ty {

@@ -10,8 +10,8 @@ ghost use Rattle.kt_operands.specs.Views.{environment_of, scope_of, head_of, mea
 use crate::meaning::{Dialect, Head, Meaning};
 use indexmap::IndexMap;
 use kt_grammar::RuleWord;
-use kt_typing::{Fault, Kind};
 use kt_types::{Field, FieldDecl, Ty, TypeTable};
+use kt_typing::{Fault, Kind};
 use std::alloc::Global;
 
 /// What an expression is typed in: the table of types as it stands there, and what is kept of each name.

@@ -16,8 +16,8 @@ use crate::tree;
 use kt_tree::{Expr, Operation, Request};
 use sqlite_items::{Boxed, Items};
 
-// A tree that gives a value of the type, or nothing.
-fn given(at: u32, ty: Option<u32>, tree: Boxed<Expr>) -> Operand
+/// A tree that gives a value of the type, or nothing.
+pub fn given(at: u32, ty: Option<u32>, tree: Boxed<Expr>) -> Operand
     ensures { given at (expression_of tree) (Some (kind_of ty)) ≡ Ok (operand_of result) }
 {
     match ty {
@@ -75,8 +75,8 @@ pub fn operated(
     Ok(valued(at, Value { ty, tree }))
 }
 
-// A request of operands of these types.
-fn requested_with(
+/// A request of operands of these types.
+pub fn requested_with(
     env: &Environment<'_>,
     at: u32,
     request: Request,

@@ -54,15 +54,27 @@ impl Environment<'_> {
         match part {
             Part::Bytes(_) => Some(operands),
             Part::Number => match operands {
-                [t, rest @ ..] => if self.is_integer(*t) { Some(rest) } else { None },
+                [t, rest @ ..] => if self.is_integer(*t) {
+                    Some(rest)
+                } else {
+                    None
+                },
                 _ => None,
             },
             Part::Byte => match operands {
-                [t, rest @ ..] => if self.is_integer(*t) && *t != LONG { Some(rest) } else { None },
+                [t, rest @ ..] => if self.is_integer(*t) && *t != LONG {
+                    Some(rest)
+                } else {
+                    None
+                },
                 _ => None,
             },
             Part::Text => match operands {
-                [t, rest @ ..] => if self.points_to(*t, CHAR) { Some(rest) } else { None },
+                [t, rest @ ..] => if self.points_to(*t, CHAR) {
+                    Some(rest)
+                } else {
+                    None
+                },
                 _ => None,
             },
         }

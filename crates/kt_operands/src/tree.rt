@@ -156,11 +156,7 @@ pub fn called(
 }
 
 /// Null as a pointer of the type; a choice of null and null still evaluates its condition.
-pub fn null_tree(
-    tree: Boxed<Expr>,
-    alloc: Global,
-    ty: u32,
-) -> Result<Boxed<Expr>, AllocError>
+pub fn null_tree(tree: Boxed<Expr>, alloc: Global, ty: u32) -> Result<Boxed<Expr>, AllocError>
     ensures { IfOk result (λ e. expression_of e ≡ null_tree ty (expression_of tree)) }
 {
     match tree.into_inner() {

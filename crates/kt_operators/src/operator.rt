@@ -115,38 +115,36 @@ fn loaded_count(env: &Environment<'_>, pointer: Operand) -> Result<Value, AllocE
             let tree = tree::requested(env.alloc, Request::Load, Some(ty), operands)?;
             Ok(Value { ty, tree })
         }
-        None => Ok(pointer.no_count()),
+        None => Ok(no_count(pointer)),
     }
 }
 
-impl Operand {
-    // What has no value, as a count: that is no integer.
-    fn no_count(self) -> Value
-        ensures { value_of result ≡ of_type mutex_type (expression_of self.tree) }
-    {
-        Value {
-            ty: MUTEX,
-            tree: self.tree,
-        }
+// What has no value, as a count: that is no integer.
+fn no_count(x: Operand) -> Value
+    ensures { value_of result ≡ of_type mutex_type (expression_of x.tree) }
+{
+    Value {
+        ty: MUTEX,
+        tree: x.tree,
     }
+}
 
-    // A count as it is in a product with a size.
-    fn count(self, env: &Environment<'_>) -> Result<Value, AllocError>
-        ensures { IfOk result (λ v. value_of v ≡ count_of (scope_of env.now) (operand_of self)) }
-    {
-        match self.standing {
-            Standing::Value => Ok(self.as_value()),
-            Standing::Zero => Ok(self.as_value()),
-            Standing::Local(_) => Ok(self.as_value()),
-            Standing::Cell => loaded_count(env, self),
-            Standing::Null => Ok(self.no_count()),
-            Standing::Whole => Ok(self.no_count()),
-            Standing::Elements => Ok(self.no_count()),
-            Standing::Size(_) => Ok(self.no_count()),
-            Standing::Product(_) => Ok(self.no_count()),
-            Standing::Nothing => Ok(self.no_count()),
-            Standing::Entry(_) => Ok(self.no_count()),
-        }
+// A count as it is in a product with a size.
+fn count_of(env: &Environment<'_>, x: Operand) -> Result<Value, AllocError>
+    ensures { IfOk result (λ v. value_of v ≡ count_of (scope_of env.now) (operand_of x)) }
+{
+    match x.standing {
+        Standing::Value => Ok(x.as_value()),
+        Standing::Zero => Ok(x.as_value()),
+        Standing::Local(_) => Ok(x.as_value()),
+        Standing::Cell => loaded_count(env, x),
+        Standing::Null => Ok(no_count(x)),
+        Standing::Whole => Ok(no_count(x)),
+        Standing::Elements => Ok(no_count(x)),
+        Standing::Size(_) => Ok(no_count(x)),
+        Standing::Product(_) => Ok(no_count(x)),
+        Standing::Nothing => Ok(no_count(x)),
+        Standing::Entry(_) => Ok(no_count(x)),
     }
 }
 
@@ -162,7 +160,7 @@ fn times_size(env: &Environment<'_>, count: Operand, size: Operand) -> Result<Op
     let at = size.at;
     let element = size.ty;
     drop(size);
-    let count = count.count(env)?;
+    let count = count_of(env, count)?;
     Ok(Operand {
         at,
         standing: Standing::Product(element),
