@@ -310,6 +310,14 @@ impl Environment<'_> {
         }
     }
 
+    /// The element type of the global of a number.
+    #[tactic(auto, unfolding(crate::specs::Views::scope_of))]
+    pub fn global(&self, global: u32) -> Option<u32>
+        ensures { result ≡ slice_get (scope_of self.now).globals global }
+    {
+        self.globals.get(global as usize).copied()
+    }
+
     /// The type of the local of a number.
     #[tactic(auto, unfolding(crate::specs::Views::scope_of))]
     pub fn local(&self, local: u32) -> Option<u32>

@@ -1,11 +1,12 @@
 //! Assignment, and the operators that change their operand (ISO/IEC 9899:2011, 6.5.16, 6.5.2.4, 6.5.3.1).
 
-ghost use Rattle.std.specs.Prelude.{◌≡◌, true, false, Err, IfOk};
+ghost use Rattle.std.specs.Prelude.{◌≡◌, true, false, [], ◌∷◌, Some, Err, IfOk};
 ghost use Rattle.std.specs.Option.{option_map};
+ghost use Rattle.kt_tree.specs.declared.expr.Request.TheVariants as request;
 ghost use Rattle.kt_tree.specs.Kinds.{pointee, is_operation};
 ghost use Rattle.kt_tree.specs.Tree.{expression_of};
 ghost use Rattle.kt_tree.specs.Typed.{is_modified};
-ghost use Rattle.kt_typing.specs.Rules.{with_value, convert, set_local, taken, of_values, modified, cell_changed, changed_of, changed, stored, assigned_of, compound_of, assignment, one, step_operator};
+ghost use Rattle.kt_typing.specs.Rules.{with_value, convert, requested, set_local, taken, of_values, modified, cell_changed, changed_of, changed, stored, assigned_of, compound_of, assignment, one, step_operator};
 ghost use Rattle.kt_typing.specs.Faults.{bad_type};
 ghost use Rattle.kt_operands.specs.declared.refusal.Refusal.TheVariants as refusal;
 ghost use Rattle.kt_operands.specs.Judged.{Follows};
@@ -179,16 +180,31 @@ pub fn changed(
     }
 }
 
+// A cell of a type that takes an operand.
+fn stored_as(
+    env: &Environment<'_>,
+    at: u32,
+    ty: u32,
+    p: Value,
+    y: Operand,
+) -> Result<Operand, Refusal>
+    ensures { Follows operand_of (with_value at (convert (scope_of env.now) ty (operand_of y)) (λ v. requested (environment_of env.now) at request.Store (Some ty) (value_of p ∷ v ∷ []))) result }
+{
+    match y.convert(env, at, ty) {
+        Ok(value) => given::stored(env, at, ty, p, value),
+        Err(e) => {
+            drop(p);
+            Err(e)
+        }
+    }
+}
+
 // A cell that takes an operand.
-#[tactic(auto, using(crate::proofs::Steps::steps))]
 fn stored(env: &Environment<'_>, at: u32, p: Value, y: Operand) -> Result<Operand, Refusal>
     ensures { Follows operand_of (stored (environment_of env.now) at (value_of p) (operand_of y) (pointee (scope_of env.now) p.ty)) result }
 {
     match env.pointee(p.ty) {
-        Some(ty) => {
-            let value = y.convert(env, at, ty)?;
-            given::stored(env, at, ty, p, value)
-        }
+        Some(ty) => stored_as(env, at, ty, p, y),
         None => {
             drop((p, y));
             Err(bad_type(at))
@@ -197,7 +213,6 @@ fn stored(env: &Environment<'_>, at: u32, p: Value, y: Operand) -> Result<Operan
 }
 
 // A local that takes an operand.
-#[tactic(auto, using(crate::proofs::Steps::steps))]
 fn assigned_local(
     env: &Environment<'_>,
     at: u32,
@@ -207,8 +222,10 @@ fn assigned_local(
 ) -> Result<Operand, Refusal>
     ensures { Follows operand_of (with_value at (convert (scope_of env.now) ty (operand_of y)) (set_local (environment_of env.now) at false local)) result }
 {
-    let value = y.convert(env, at, ty)?;
-    set_local(env, at, false, local, value)
+    match y.convert(env, at, ty) {
+        Ok(value) => set_local(env, at, false, local, value),
+        Err(e) => Err(e),
+    }
 }
 
 // What takes nothing.

@@ -62,8 +62,28 @@ fn null_if(null: bool, x: Operand) -> Operand
     }
 }
 
+// `c ? a : b`, of a value and two operands.
+#[tactic(auto, using(crate::proofs::Pairs::two_values))]
+fn chosen_by(
+    env: &Environment<'_>,
+    at: u32,
+    test: Value,
+    a: Operand,
+    b: Operand,
+) -> Result<Operand, Refusal>
+    ensures { Follows operand_of (with_two at (value_beside (scope_of env.now) (operand_of a) (operand_of b)) (value_beside (scope_of env.now) (operand_of b) (operand_of a)) (chosen (environment_of env.now) at (value_of test))) result }
+{
+    match values_beside(env, at, a, b) {
+        Ok((left, right)) => chosen(env, at, test, left, right),
+        Err(e) => {
+            drop(test);
+            Err(e)
+        }
+    }
+}
+
 // `c ? a : b`, where a choice of null and null is a value.
-#[tactic(auto, using(crate::proofs::Steps::stops_value, crate::proofs::Steps::goes_value, crate::proofs::Pairs::two_values))]
+#[tactic(auto, using(crate::proofs::Steps::steps))]
 fn choice_of(
     env: &Environment<'_>,
     at: u32,
@@ -74,8 +94,7 @@ fn choice_of(
     ensures { Follows operand_of (with_value at (scalar (scope_of env.now) (operand_of c)) (λ v. with_two at (value_beside (scope_of env.now) (operand_of a) (operand_of b)) (value_beside (scope_of env.now) (operand_of b) (operand_of a)) (chosen (environment_of env.now) at v))) result }
 {
     let test = c.scalar(env, at)?;
-    let (one, other) = values_beside(env, at, a, b)?;
-    chosen(env, at, test, one, other)
+    chosen_by(env, at, test, a, b)
 }
 
 /// `c ? a : b`

@@ -30,15 +30,14 @@ fn is_number_of(n: i64, ty: u32) -> bool
 }
 
 // The constant is one of the type.
-#[tactic(auto, unfolding(crate::specs::Views::scope_of))]
 fn is_constant(env: &Environment<'_>, c: Constant, ty: u32) -> bool
     ensures { result ≡ is_constant (scope_of env.now) c ty }
 {
     match c {
         Constant::Number(n) => is_number_of(n, ty),
         Constant::Null => env.is_pointer(ty),
-        Constant::Global(global) => match env.globals.get(global as usize) {
-            Some(e) => env.points_to(ty, *e),
+        Constant::Global(global) => match env.global(global) {
+            Some(e) => env.points_to(ty, e),
             None => false,
         },
         Constant::Literal(literal) => env.is_literal(literal) && env.points_to(ty, CHAR),

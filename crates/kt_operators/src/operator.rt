@@ -51,8 +51,10 @@ fn either_holds(env: &Environment<'_>, at: u32, a: Value, b: Value) -> Result<Op
 fn conjunction(env: &Environment<'_>, at: u32, a: Operand, b: Operand) -> Result<Operand, Refusal>
     ensures { Follows operand_of (operator (environment_of env.now) at binary.And (operand_of a) (operand_of b)) result }
 {
-    let (a, b) = scalars(env, at, a, b)?;
-    both_hold(env, at, a, b)
+    match scalars(env, at, a, b) {
+        Ok((left, right)) => both_hold(env, at, left, right),
+        Err(e) => Err(e),
+    }
 }
 
 // `a || b`
@@ -60,8 +62,10 @@ fn conjunction(env: &Environment<'_>, at: u32, a: Operand, b: Operand) -> Result
 fn disjunction(env: &Environment<'_>, at: u32, a: Operand, b: Operand) -> Result<Operand, Refusal>
     ensures { Follows operand_of (operator (environment_of env.now) at binary.Or (operand_of a) (operand_of b)) result }
 {
-    let (a, b) = scalars(env, at, a, b)?;
-    either_holds(env, at, a, b)
+    match scalars(env, at, a, b) {
+        Ok((left, right)) => either_holds(env, at, left, right),
+        Err(e) => Err(e),
+    }
 }
 
 // An operator of two values, of which null takes the type of the other.
@@ -75,8 +79,10 @@ fn compared(
 ) -> Result<Operand, Refusal>
     ensures { Follows operand_of (with_two at (value_beside (scope_of env.now) (operand_of a) (operand_of b)) (value_beside (scope_of env.now) (operand_of b) (operand_of a)) (of_values (environment_of env.now) at op)) result }
 {
-    let (a, b) = values_beside(env, at, a, b)?;
-    of_values(env, at, op, a, b)
+    match values_beside(env, at, a, b) {
+        Ok((left, right)) => of_values(env, at, op, left, right),
+        Err(e) => Err(e),
+    }
 }
 
 // An operator of two values.
@@ -90,8 +96,10 @@ fn computed(
 ) -> Result<Operand, Refusal>
     ensures { Follows operand_of (with_two at (value (scope_of env.now) (operand_of a)) (value (scope_of env.now) (operand_of b)) (of_values (environment_of env.now) at op)) result }
 {
-    let (a, b) = values(env, at, a, b)?;
-    of_values(env, at, op, a, b)
+    match values(env, at, a, b) {
+        Ok((left, right)) => of_values(env, at, op, left, right),
+        Err(e) => Err(e),
+    }
 }
 
 /// Whether what stands so is a size.
