@@ -164,5 +164,3 @@ module _ {V : Type 0} (view : V → Operand) (at : ℕ) where
       → Follows view (rule (view p) (view q) (view s)) r → AfterThree view at x y z rule r
   three_goes x y z rule p q s r is h w a b c i j k =
       whole-goes view three (Part w a (Part w b (Part w c NoPart))) (on_three at rule) (p, (q, s)) r (three-parts w a b c x y z (Ok (p, (q, s))) is i j k) h
-
-pub ruleset forms = (one_stops, one_goes, two_stops, two_goes, three_stops, three_goes)

@@ -7,12 +7,12 @@ ghost use Rattle.kt_operands.specs.Judged.{Follows};
 ghost use Rattle.kt_operands.specs.Views.{environment_of, scope_of, operand_of, value_of};
 ghost use Rattle.kt_operators.specs.Views.{combined_of};
 
+use kt_grammar::BinaryOperator;
 use kt_operands::environment::Environment;
 use kt_operands::given::operated;
 use kt_operands::operand::{Operand, Value, bad_type};
 use kt_operands::refusal::Refusal;
 use kt_operands::types::{INT, LONG, common};
-use kt_grammar::BinaryOperator;
 use kt_tree::Operation;
 
 /// An operation and the type of what it gives.
@@ -58,12 +58,7 @@ fn difference(env: &Environment<'_>, a: u32, b: u32) -> Combined
 }
 
 /// What an operator does with two values of these types; `&&` and `||` are no operations.
-pub fn combination(
-    env: &Environment<'_>,
-    op: BinaryOperator,
-    a: u32,
-    b: u32,
-) -> Option<Combined>
+pub fn combination(env: &Environment<'_>, op: BinaryOperator, a: u32, b: u32) -> Option<Combined>
     ensures { option_map combined_of result ≡ combination (scope_of env.now) op a b }
 {
     match op {

@@ -14,14 +14,13 @@ ghost use Rattle.kt_operands.specs.Views.{environment_of, scope_of, operand_of, 
 ghost use Rattle.kt_operators.specs.Views.{combined_of};
 
 use crate::arithmetic::{Combined, combination, of_values};
+use kt_grammar::{AssignOperator, BinaryOperator, StepOperator};
 use kt_operands::convert::converted;
 use kt_operands::environment::Environment;
-use kt_operands::given;
 use kt_operands::operand::{Operand, Value, bad_type, valued};
 use kt_operands::refusal::Refusal;
-use kt_operands::tree;
 use kt_operands::types::INT;
-use kt_grammar::{AssignOperator, BinaryOperator, StepOperator};
+use kt_operands::{given, tree};
 use kt_tree::Constant;
 use kt_typing::Standing;
 use std::alloc::AllocError;
@@ -237,12 +236,7 @@ fn unassigned(at: u32, x: Operand, y: Operand) -> Result<Operand, Refusal>
 }
 
 // `x = y`
-fn assigned_of(
-    env: &Environment<'_>,
-    at: u32,
-    x: Operand,
-    y: Operand,
-) -> Result<Operand, Refusal>
+fn assigned_of(env: &Environment<'_>, at: u32, x: Operand, y: Operand) -> Result<Operand, Refusal>
     ensures { Follows operand_of (assigned_of (environment_of env.now) at x.standing x.ty (expression_of x.tree) (operand_of y)) result }
 {
     match x.standing {

@@ -31,13 +31,7 @@ fn is_choice(env: &Environment<'_>, t: u32, a: u32, b: u32) -> bool
 }
 
 // `c ? a : b`, of values.
-fn chosen(
-    env: &Environment<'_>,
-    at: u32,
-    c: Value,
-    a: Value,
-    b: Value,
-) -> Result<Operand, Refusal>
+fn chosen(env: &Environment<'_>, at: u32, c: Value, a: Value, b: Value) -> Result<Operand, Refusal>
     ensures { Follows operand_of (chosen (environment_of env.now) at (value_of c) (value_of a) (value_of b)) result }
 {
     let ty = choice_type(env, a.ty, b.ty);

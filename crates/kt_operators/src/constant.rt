@@ -11,14 +11,14 @@ ghost use Rattle.kt_typing.specs.Rules.{constant_at, number_type, number, null_a
 ghost use Rattle.kt_operands.specs.Judged.{Follows};
 ghost use Rattle.kt_operands.specs.Views.{environment_of, scope_of, operand_of, meaning_of};
 
+use kt_grammar::{Base, TypeName};
+use kt_lex::Number;
 use kt_operands::environment::Environment;
 use kt_operands::meaning::Meaning;
 use kt_operands::operand::{Operand, Value, bad_type, unknown, valued};
 use kt_operands::refusal::Refusal;
 use kt_operands::tree;
 use kt_operands::types::{CHAR, INT, LONG, MUTEX};
-use kt_grammar::{Base, TypeName};
-use kt_lex::Number;
 use kt_tree::Constant;
 use kt_typing::Standing;
 
@@ -160,7 +160,12 @@ fn local(env: &Environment<'_>, at: u32, number: u32, ty: u32) -> Result<Operand
 }
 
 /// What a name or a word stands for, where it stands by itself; where it stands for nothing, the fault is at the second place.
-pub fn meant(env: &Environment<'_>, at: u32, named: u32, meaning: Meaning) -> Result<Operand, Refusal>
+pub fn meant(
+    env: &Environment<'_>,
+    at: u32,
+    named: u32,
+    meaning: Meaning,
+) -> Result<Operand, Refusal>
     ensures { Follows operand_of (meant at named (meaning_of meaning)) result }
 {
     match meaning {

@@ -12,12 +12,12 @@ ghost use Rattle.kt_operands.specs.Views.{environment_of, scope_of, operand_of, 
 
 use crate::arithmetic::of_values;
 use crate::beside::{scalars, values, values_beside};
+use kt_grammar::BinaryOperator;
 use kt_operands::environment::Environment;
 use kt_operands::operand::{Operand, Value, bad_type, valued};
 use kt_operands::refusal::Refusal;
 use kt_operands::tree;
 use kt_operands::types::{INT, MUTEX};
-use kt_grammar::BinaryOperator;
 use kt_tree::Request;
 use kt_typing::Standing;
 use std::alloc::AllocError;

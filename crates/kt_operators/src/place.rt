@@ -6,11 +6,11 @@ ghost use Rattle.kt_typing.specs.Rules.{place_standing, place_at, indexed, eleme
 ghost use Rattle.kt_operands.specs.Judged.{Follows, found};
 ghost use Rattle.kt_operands.specs.Views.{environment_of, scope_of, operand_of, value_of};
 
+use kt_grammar::Name;
 use kt_operands::environment::Environment;
 use kt_operands::given::{operated, operated_on};
 use kt_operands::operand::{Operand, Value, bad_type, unknown};
 use kt_operands::refusal::Refusal;
-use kt_grammar::Name;
 use kt_tree::Operation;
 use kt_types::{Field, Ty};
 use kt_typing::Standing;

@@ -11,15 +11,15 @@ ghost use Rattle.kt_operands.specs.Judged.{Follows};
 ghost use Rattle.kt_operands.specs.Views.{environment_of, scope_of, operand_of, value_of};
 
 use crate::assign::{Change, changed, one};
+use crate::place::place_standing;
+use kt_grammar::{BinaryOperator, PrefixOperator};
 use kt_operands::convert::converted;
 use kt_operands::environment::Environment;
 use kt_operands::given::{operated, operated_on};
 use kt_operands::operand::{Operand, Value, bad_type, valued};
-use crate::place::place_standing;
 use kt_operands::refusal::Refusal;
 use kt_operands::tree;
 use kt_operands::types::{INT, common};
-use kt_grammar::{BinaryOperator, PrefixOperator};
 use kt_tree::{Constant, Operation};
 use kt_typing::Standing;
 
@@ -29,7 +29,14 @@ fn negated(env: &Environment<'_>, at: u32, value: Value) -> Result<Operand, Refu
 {
     let tree = tree::constant(env.alloc, Constant::Number(0), INT)?;
     let ty = common(value.ty, value.ty);
-    operated(env, at, Operation::Subtract, ty, Value { ty: INT, tree }, value)
+    operated(
+        env,
+        at,
+        Operation::Subtract,
+        ty,
+        Value { ty: INT, tree },
+        value,
+    )
 }
 
 // `*p`, of a value.
