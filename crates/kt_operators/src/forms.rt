@@ -137,7 +137,7 @@ pub fn chosen_of(env: &Environment<'_>, at: u32, c: Answer, a: Answer, b: Answer
 {
     let arms = both(a, b);
     match both(c, arms) {
-        Ok((test, (one, other))) => choice(env, at, test, one, other),
+        Ok((test, rest)) => choice(env, at, test, rest.0, rest.1),
         Err(e) => Err(e),
     }
 }

@@ -8,7 +8,7 @@ use Rattle.kt_operators.proofs.forms.chosen_of.Goals as goal
 pub returns-in-Ok : goal.returns-in-Ok
 returns-in-Ok c =
     let env = environment_of c.args.env.now in
-    three_goes operand_of c.args.at c.args.c c.args.a c.args.b (choice env c.args.at) c.in-Ok.test c.in-Ok.one c.in-Ok.other c.choice.result
+    three_goes operand_of c.args.at c.args.c c.args.a c.args.b (choice env c.args.at) c.in-Ok.test c.in-Ok.rest.0 c.in-Ok.rest.1 c.choice.result
     (sym (c.in-Ok.ensures ∙ ap (both_of c.args.c) c.both-arms.ensures)) c.choice.ensures
 
 pub returns-in-Err : goal.returns-in-Err
