@@ -1,12 +1,12 @@
 -- Null as a tree of another type.
-use Rattle.std.proofs.Common.{◌≡◌, ℕ, Result, Ok, Err, IfOk, refl, sym, ap, ◌∙◌, subst}
+use Rattle.std.proofs.Common.{◌≡◌, ℕ, Result, IfOk, refl, sym, ap, ◌∙◌, subst}
 use denote.Hole.Carrier.{hidden}
 use Rattle.kt_tree.specs.declared.expr.Constant.TheVariants as constant
 use Rattle.kt_tree.specs.declared.expr.Expr.TheBlock.{hidden-the_row-Expr-0}
 use Rattle.kt_tree.specs.declared.expr.Expr.{Expr, SetLocal', SwapLocal', Operation', Request', Modify', And', Or', Choice', Call', end_of-Expr, more_of-Expr}
 use Rattle.kt_tree.specs.declared.expr.Expr.TheVariants as expr
 use Rattle.kt_tree.specs.Forms.{choice_form}
-use Rattle.kt_tree.specs.Tree.{Expression, Constant', Chosen, expression_of}
+use Rattle.kt_tree.specs.Tree.{Constant', Chosen, expression_of}
 use Rattle.kt_typing.specs.Rules.{null_tree}
 
 choice-itself : (own : ℕ) (c a b : Expr) → Choice' _ (more_of-Expr c end_of-Expr) own _ (more_of-Expr a end_of-Expr) _ (more_of-Expr b end_of-Expr) ≡ expr.Choice c own a b

@@ -1,5 +1,5 @@
 -- Kinds of operands that several operations or requests take.
-use Rattle.std.specs.Prelude.{ℕ, ◌==◌, ◌&&◌, not, Bool, true, false, List, [], ◌∷◌, Option, Some, None, if◌then◌else◌}
+use Rattle.std.specs.Prelude.{ℕ, ◌==◌, ◌&&◌, not, Bool, false, List, [], ◌∷◌, Option, Some, None, if◌then◌else◌}
 use Rattle.kt_tree.specs.declared.expr.Part.{Part}
 use Rattle.kt_tree.specs.declared.expr.Part.TheVariants as part
 use Rattle.kt_tree.specs.Kinds.{Scope, is_integer, is_comparable, points_to, common, char_type, int_type, long_type}

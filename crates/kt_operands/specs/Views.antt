@@ -1,6 +1,5 @@
 -- What the code's environments, operands and values stand for.
-use Rattle.std.specs.Prelude.{ℕ, ◌==◌, List, map, length, slice_get, Option, Some, None, option_and_then, unwrap_or}
-use Rattle.std.specs.Option.{option_map}
+use Rattle.std.specs.Prelude.{ℕ, ◌==◌, List, map, length, slice_get, Option, Some, None, option_and_then}
 use Rattle.std.specs.Map.{lookup}
 use Rattle.std.specs.Str.{bytes_eq}
 use Rattle.kt_grammar.specs.declared.keyword.RuleWord.{RuleWord}

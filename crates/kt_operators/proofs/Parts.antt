@@ -1,7 +1,7 @@
 -- How answers for the parts of an expression give the one for the whole.
-use Rattle.std.proofs.Common.{◌≡◌, ℕ, Bool, true, false, List, [], ◌∷◌, Option, Some, None, Result, Ok, Err, refl, sym, ap, ◌∙◌, subst}
+use Rattle.std.proofs.Common.{◌≡◌, ℕ, List, [], ◌∷◌, Option, Some, None, Result, Ok, Err, refl, ap, ◌∙◌, subst}
 use Rattle.kt_typing.specs.declared.fault.Fault.{Fault}
-use Rattle.kt_typing.specs.First.{earlier_of, earlier, misuse, first_fault, first_of_parts}
+use Rattle.kt_typing.specs.First.{earlier, misuse, first_fault, first_of_parts}
 use Rattle.kt_typing.specs.Forms.{Form, Ruled, Parts, NoPart, Part, unless, fitting, typed, operands, IsPartFault}
 use Rattle.kt_typing.specs.Operands.{Operand}
 use Rattle.kt_typing.specs.Terms.{on_one, on_two, on_three}

@@ -1,5 +1,5 @@
 -- What a rule says of a value that is there, or is not.
-use Rattle.std.proofs.Common.{◌≡◌, ℕ, Bool, true, false, [], ◌∷◌, if◌then◌else◌, Option, Some, None, Result, Ok, Err, option_and_then, refl, sym, ap, ◌∙◌}
+use Rattle.std.proofs.Common.{◌≡◌, ℕ, Bool, true, false, [], ◌∷◌, if◌then◌else◌, Option, Some, None, Result, Ok, Err, refl, ap}
 use Rattle.kt_typing.specs.declared.fault.Fault.{Fault}
 use Rattle.kt_typing.specs.Faults.{bad_type}
 use Rattle.kt_typing.specs.Operands.{Operand, Value, of_type}
