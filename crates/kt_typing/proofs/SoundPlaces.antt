@@ -1,8 +1,7 @@
 -- Expressions are sound where they stand in a statement.
-use Rattle.std.proofs.Common.{◌≡◌, ℕ, Bool, true, false, List, [], ◌∷◌, Option, Some, None, Result, Ok, Err, if◌then◌else◌, refl, sym, subst}
+use Rattle.std.proofs.Common.{◌≡◌, ℕ, Bool, true, false, [], ◌∷◌, Option, Some, None, Result, Ok, Err, if◌then◌else◌, refl, subst}
 use Rattle.std.specs.Option.{is_some}
 use Rattle.kt_grammar.specs.Tree.{Term}
-use Rattle.kt_tree.specs.Tree.{Expression}
 use Rattle.kt_tree.specs.Kinds.{is_scalar}
 use Rattle.kt_tree.specs.Typed.{kind, is_condition}
 use Rattle.kt_typing.specs.declared.fault.Fault.{Fault}
@@ -11,7 +10,7 @@ use Rattle.kt_typing.specs.declared.standing.Standing.TheVariants as standing
 use Rattle.kt_typing.specs.declared.standing.Use.TheVariants as use_as
 use Rattle.kt_typing.specs.Environment.{Environment}
 use Rattle.kt_typing.specs.Faults.{bad_type}
-use Rattle.kt_typing.specs.Forms.{Form, Ruled, Parts, NoPart, Part, fitting, typed, operands}
+use Rattle.kt_typing.specs.Forms.{Form, Ruled, NoPart, Part, fitting, typed, operands}
 use Rattle.kt_typing.specs.Operands.{Operand, Value, valued, scalar}
 use Rattle.kt_typing.specs.Rules.{wrong, with_value, convert}
 use Rattle.kt_typing.specs.Sound.{HasType, IsSoundAs, IsSound, IsRight}

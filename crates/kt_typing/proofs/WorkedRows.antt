@@ -10,6 +10,7 @@ use Rattle.kt_typing.specs.Environment.{Environment}
 use Rattle.kt_typing.specs.First.{first_fault}
 use Rattle.kt_typing.specs.Forms.{typed}
 use Rattle.kt_typing.specs.Operands.{Operand}
+use Rattle.kt_typing.specs.Pairs.{two_faulty_parts, own_faults}
 use Rattle.kt_typing.specs.Rows.{c_file, rule_code, refused, accepted, refused_in_rules, accepted_in_rules}
 use Rattle.kt_typing.specs.Terms.{effect}
 use Rattle.kt_typing.proofs.Exact.{found-first}
@@ -30,6 +31,14 @@ module _ (env : Environment) where
 pub refused-rows : AllByRecursion (IsRefused c_file) refused
 unfolding layout place_cells struct_cells repeated
 refused-rows = all-refused c_file refused refl
+
+pub two-faulty-parts-rows : AllByRecursion (IsRefused c_file) two_faulty_parts
+unfolding layout place_cells struct_cells repeated
+two-faulty-parts-rows = all-refused c_file two_faulty_parts refl
+
+pub own-faults-rows : AllByRecursion (IsRefused c_file) own_faults
+unfolding layout place_cells struct_cells repeated
+own-faults-rows = all-refused c_file own_faults refl
 
 pub accepted-rows : AllByRecursion (IsAccepted c_file) accepted
 unfolding layout place_cells struct_cells repeated

@@ -6,6 +6,7 @@ pub mod First
 pub mod Formats
 pub mod Forms
 pub mod Operands
+pub mod Pairs
 pub mod Rows
 pub mod Rules
 pub mod Sound

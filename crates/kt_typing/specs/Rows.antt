@@ -9,6 +9,7 @@ use Rattle.kt_grammar.specs.declared.keyword.RuleWord.TheVariants as word
 use Rattle.kt_grammar.specs.declared.tree.Base.{Base}
 use Rattle.kt_grammar.specs.declared.tree.Base.TheVariants as base
 use Rattle.kt_grammar.specs.declared.tree.Name.{Name}
+use Rattle.kt_grammar.specs.declared.tree.TypeName.{TypeName}
 use Rattle.kt_grammar.specs.Tree.{Term, Constant, Text, Null, Named, Called, Parenthesised, SizeOf, RuleValue, OldSymbol, Transformed, Element, Pointed, Prefixed, Operated, Chosen, Assigned, Terms, Nothing, More}
 use Rattle.kt_types.specs.declared.kinds.Ty.TheVariants as ty
 use Rattle.kt_types.specs.declared.kinds.View.TheVariants as view
@@ -108,8 +109,11 @@ named at word = Named (name at word)
 abbrev pub number : ℕ → ℕ → Term
 number at n = Constant at (record { value = n; long = false; hexadecimal = false })
 
+abbrev pub type_name : Base → ℕ → TypeName
+type_name b stars = record { base = b; stars = stars }
+
 abbrev pub size_of : ℕ → Base → Term
-size_of at b = SizeOf at (record { base = b; stars = 0 })
+size_of at b = SizeOf at (type_name b 0)
 
 abbrev pub terms : List Term → Terms
 terms [] = Nothing

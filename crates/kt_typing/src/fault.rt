@@ -1,7 +1,7 @@
 //! Faults of typing.
 
 /// What is wrong, in the order in which faults at one place are told.
-#[derive(Clone, Copy, PartialEq, Eq)]
+#[derive(Clone, Copy, Debug, PartialEq, Eq)]
 pub enum Kind {
     /// A name or field that there isn't.
     Unknown,
@@ -24,7 +24,7 @@ pub enum Kind {
 }
 
 /// A fault: the first byte of what is faulty, and what is wrong.
-#[derive(Clone, Copy, PartialEq, Eq)]
+#[derive(Clone, Copy, Debug, PartialEq, Eq)]
 pub struct Fault {
     pub at: u32,
     pub kind: Kind,

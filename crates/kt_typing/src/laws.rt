@@ -14,6 +14,7 @@ ghost use Rattle.kt_typing.specs.Environment.{Environment};
 ghost use Rattle.kt_typing.specs.Sound.{HasType, IsRight, IsSound};
 ghost use Rattle.kt_typing.specs.Terms.{form, effect, condition, conversion};
 ghost use Rattle.kt_typing.specs.declared.standing.Use.{Use};
+ghost use Rattle.kt_typing.specs.Pairs.{two_faulty_parts, own_faults};
 ghost use Rattle.kt_typing.specs.Rows.{c_file, rule_code, refused, accepted, refused_in_rules, accepted_in_rules};
 ghost use Rattle.kt_typing.specs.declared.fault.Fault.{Fault};
 
@@ -29,6 +30,8 @@ pub fn typing_law()
 /// Worked rows: of two faulty parts, of operators and calls whose parts are faulty, of parentheses and of null.
 pub fn rows_law()
     ensures refused { AllByRecursion (IsRefused c_file) refused }
+    ensures two_faulty_parts { AllByRecursion (IsRefused c_file) two_faulty_parts }
+    ensures own_faults { AllByRecursion (IsRefused c_file) own_faults }
     ensures accepted { AllByRecursion (IsAccepted c_file) accepted }
     ensures refused_in_rules { AllByRecursion (IsRefused rule_code) refused_in_rules }
     ensures accepted_in_rules { AllByRecursion (IsAccepted rule_code) accepted_in_rules }

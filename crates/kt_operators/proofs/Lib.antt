@@ -1,0 +1,4 @@
+mod Pairs
+mod Parts
+mod Steps
+mod Syntax

@@ -1,0 +1,14 @@
+use Rattle.kt_typing.specs.Rules.{cast}
+use Rattle.kt_operands.specs.Views.{environment_of, operand_of}
+use Rattle.kt_operators.proofs.Parts.{one_stops, one_goes}
+use Rattle.kt_operators.proofs.forms.cast_of.Goals as goal
+
+pub returns-in-Ok : goal.returns-in-Ok
+returns-in-Ok c =
+    let env = environment_of c.args.env.now in
+    one_goes operand_of c.args.at c.args.x (cast env c.args.at c.args.allocates c.args.ty) c.in-Ok.y c.cast.result c.in-Ok.is c.cast.ensures
+
+pub returns-in-Err : goal.returns-in-Err
+returns-in-Err c =
+    let env = environment_of c.args.env.now in
+    one_stops operand_of c.args.at c.args.x (cast env c.args.at c.args.allocates c.args.ty) c.in-Err.e c.in-Err.is
