@@ -54,6 +54,7 @@ main-entry p h does v g f found e =
   where
     same-first : (o : Option (ℕ × Function)) (g k : ℕ) (f e : Function) → o ≡ Some (g, f) → o ≡ Some (k, e) → g ≡ k
     same-first o g k f e h i = ap (λ (x : ℕ × Function). x.0) (same_Some (g, f) (k, e) (sym h ∙ i))
+
     none-some : (x : ℕ) → None ≡ Some x → ⊥
     none-some x e = cc
 
