@@ -204,7 +204,7 @@ module _ {X : Type 0} (e : Engine X) (job : Job) where
   first-counts : (first_world e job).shared.turns ≡ 0
   first-counts = before_turn-same (start e job)
 
-pub turns-counted : TurnsAreCounted
+pub turns-counted : (job : Job) (turns : List ℕ) → TurnsAreCounted job turns
 turns-counted job turns =
     let e = tree_engine job in
     let all = counted-from e job turns (first_world e job) in

@@ -53,7 +53,7 @@ alone : {X : Type 0} (e : Engine X) (w : World X) (t : ℕ) → w.shared.phase �
 alone e w t on_its_way may =
     eqb-true t 0 (subst (λ phase. is_turnable phase t ≡ true) on_its_way (turnable e w t (slice_get w.threads t) may.enabled))
 
-pub one-more-may : OneMoreMayBeTaken
+pub one-more-may : (job : Job) (turns : List ℕ) → OneMoreMayBeTaken job turns
 one-more-may job turns t =
     let e = tree_engine job in
     let first = first_world e job in (
@@ -61,8 +61,8 @@ one-more-may job turns t =
       λ both. append e job turns (t ∷ []) first both.0 (both.1, tt),
     )
 
-pub one-more-next : OneMoreIsTheNext
+pub one-more-next : (job : Job) (turns : List ℕ) → OneMoreIsTheNext job turns
 one-more-next job turns t = one-more (tree_engine job) job turns t (first_world (tree_engine job) job)
 
-pub main-alone : MainIsAlone
+pub main-alone : (job : Job) (turns : List ℕ) → MainIsAlone job turns
 main-alone job turns t may on_its_way = alone (tree_engine job) (world job turns) t on_its_way ((one-more-may job turns t).0 may).1

@@ -289,7 +289,7 @@ module _ {X : Type 0} (e : Engine X) (job : Job) where
       let rest = after_act-rises (counted (acted e (types_at job w.shared.version) w t)) in
       omega (arith, acts, rest)
 
-pub heap-numbers-never-fall : HeapNumbersNeverFall
+pub heap-numbers-never-fall : (job : Job) (turns : List ℕ) → HeapNumbersNeverFall job turns
 heap-numbers-never-fall job turns t =
     let e = tree_engine job in
     let one = turn-rises e job (world job turns) t in

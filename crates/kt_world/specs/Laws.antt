@@ -10,27 +10,27 @@ use Rattle.kt_world.specs.Update.{refused}
 use Rattle.kt_world.specs.World.{World}
 
 -- one turn more may be taken exactly where the turns before may be and the thread may take one in their world
-abbrev pub OneMoreMayBeTaken : Type 0
-OneMoreMayBeTaken =
-    (job : Job) (turns : List ℕ) (t : ℕ) →
+abbrev pub OneMoreMayBeTaken : Job → List ℕ → Type 0
+OneMoreMayBeTaken job turns =
+    (t : ℕ) →
     AreTurnsOf job (turns ++ t ∷ []) ↔ (AreTurnsOf job turns × MayTurn (tree_engine job) (world job turns) t)
 
 -- the world of the longer list is one turn of that thread from theirs
-abbrev pub OneMoreIsTheNext : Type 0
-OneMoreIsTheNext = (job : Job) (turns : List ℕ) (t : ℕ) → world job (turns ++ t ∷ []) ≡ turn (tree_engine job) job (world job turns) t
+abbrev pub OneMoreIsTheNext : Job → List ℕ → Type 0
+OneMoreIsTheNext job turns = (t : ℕ) → world job (turns ++ t ∷ []) ≡ turn (tree_engine job) job (world job turns) t
 
 -- while `main` is on its way to its point after an update, no other thread may take a turn
-abbrev pub MainIsAlone : Type 0
-MainIsAlone = (job : Job) (turns : List ℕ) (t : ℕ) → AreTurnsOf job (turns ++ t ∷ []) → (world job turns).shared.phase ≡ Main → t ≡ 0
+abbrev pub MainIsAlone : Job → List ℕ → Type 0
+MainIsAlone job turns = (t : ℕ) → AreTurnsOf job (turns ++ t ∷ []) → (world job turns).shared.phase ≡ Main → t ≡ 0
 
 -- the turns are counted
-abbrev pub TurnsAreCounted : Type 0
-TurnsAreCounted = (job : Job) (turns : List ℕ) → (world job turns).shared.turns ≡ length turns
+abbrev pub TurnsAreCounted : Job → List ℕ → Type 0
+TurnsAreCounted job turns = (world job turns).shared.turns ≡ length turns
 
 -- a heap number is given out once: the next one never falls
-abbrev pub HeapNumbersNeverFall : Type 0
-HeapNumbersNeverFall =
-    (job : Job) (turns : List ℕ) (t : ℕ) → (world job turns).shared.memory.next ≤ (world job (turns ++ t ∷ [])).shared.memory.next
+abbrev pub HeapNumbersNeverFall : Job → List ℕ → Type 0
+HeapNumbersNeverFall job turns =
+    (t : ℕ) → (world job turns).shared.memory.next ≤ (world job (turns ++ t ∷ [])).shared.memory.next
 
 -- a refused closing changes neither memory nor code
 pub record StaysAtRefusal (job : Job) (c : Closed) (w : World tree.Thread) : Type 0 where

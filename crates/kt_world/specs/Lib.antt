@@ -11,3 +11,4 @@ pub mod Scripts
 pub mod Rows
 pub mod Trees
 pub mod Laws
+pub mod Plain

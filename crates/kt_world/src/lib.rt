@@ -2,8 +2,10 @@
 //!
 #![tactic(auto)]
 
+mod job;
 mod laws;
 mod mark;
 
-pub use laws::{refusal_law, rows_law, turns_law};
+pub use job::{Job, Plans, Versions};
+pub use laws::{refusal_law, rows_law, world_law};
 pub use mark::{Closed, End, Mark};

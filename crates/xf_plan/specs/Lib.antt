@@ -9,3 +9,4 @@ pub mod Spots
 pub mod Reached
 pub mod Images
 pub mod Rows
+pub mod Plain

@@ -27,7 +27,7 @@ use Rattle.xf_plan.specs.Plan.{Plan, FieldRule, FieldSource, OldField, FieldBody
 use Rattle.xf_plan.specs.Correspondence.{converts}
 use Rattle.xf_plan.specs.Images.{faults, fresh_places, heap_numbers, image_count, kept_globals, moved_object, live_cells}
 use Rattle.xf_plan.specs.Reached.{reached}
-use Rattle.xf_plan.specs.Sources.{Source, FromCell, Zero, sources}
+use Rattle.xf_plan.specs.Sources.{FromCell, Zero, sources}
 use Rattle.xf_plan.specs.declared.place.Fault.{Fault}
 use Rattle.xf_plan.specs.declared.place.Place.{Place}
 use Rattle.xf_plan.specs.declared.place.Place.TheVariants.{GlobalCell, HeapCell}
