@@ -76,6 +76,7 @@ fn faults_are_told_at_their_lines(rt: HostRuntime) -> Result<(), Fail> {
         ("kit 1\nclose 1 refused rule a 1\nend stuck\n", 6),
         ("kit 1\nend trap 0 lost\n", 6),
     ] {
+        assert!(rt; text.len() < 1000);
         let told = read(rt.alloc(), text.as_bytes()).err();
         assert_eq!(rt; told, Some(JournalFault::Line { at }));
     }
