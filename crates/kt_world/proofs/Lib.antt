@@ -1,3 +1,4 @@
 pub mod Following
 pub mod Counting
 pub mod HeapNumbers
+pub mod Endings

@@ -1,5 +1,6 @@
 -- Laws of worlds, as statements.
-use Rattle.std.specs.Prelude.{◌≡◌, ◌↔◌, ◌≤◌, ℕ, List, [], ◌∷◌, ◌++◌, length}
+use Rattle.std.specs.Prelude.{◌≡◌, ◌↔◌, ◌≤◌, ℕ, false, List, [], ◌∷◌, ◌++◌, length}
+use Rattle.std.specs.List.{AllByRecursion}
 use Rattle.kt_meaning.specs.Thread as tree
 use Rattle.kt_phase.specs.declared.counters.Phase.TheVariants.{Main}
 use Rattle.kt_world.specs.declared.mark.Closed.{Closed}
@@ -7,7 +8,7 @@ use Rattle.kt_world.specs.Job.{Job}
 use Rattle.kt_world.specs.Trees.{AreTurnsOf, tree_engine, world}
 use Rattle.kt_world.specs.Turns.{MayTurn, turn}
 use Rattle.kt_world.specs.Update.{refused}
-use Rattle.kt_world.specs.World.{World}
+use Rattle.kt_world.specs.World.{Engine, Thread, World, lives}
 
 -- one turn more may be taken exactly where the turns before may be and the thread may take one in their world
 abbrev pub OneMoreMayBeTaken : Job → List ℕ → Type 0
@@ -31,6 +32,13 @@ TurnsAreCounted job turns = (world job turns).shared.turns ≡ length turns
 abbrev pub HeapNumbersNeverFall : Job → List ℕ → Type 0
 HeapNumbersNeverFall job turns =
     (t : ℕ) → (world job turns).shared.memory.next ≤ (world job (turns ++ t ∷ [])).shared.memory.next
+
+-- a thread that has ended has no call
+abbrev pub IsGoneIfEnded : {X : Type 0} → Engine X → Thread X → Type 0
+IsGoneIfEnded e th = lives th.standing ≡ false → e.calls th.state ≡ []
+
+abbrev pub EndedAreGone : Job → List ℕ → Type 0
+EndedAreGone job turns = AreTurnsOf job turns → AllByRecursion (IsGoneIfEnded (tree_engine job)) (world job turns).threads
 
 -- a refused closing changes neither memory nor code
 pub record StaysAtRefusal (job : Job) (c : Closed) (w : World tree.Thread) : Type 0 where

@@ -1,4 +1,5 @@
 use Rattle.kt_world.proofs.Counting.{turns-counted}
+use Rattle.kt_world.proofs.Endings.{ended-are-gone}
 use Rattle.kt_world.proofs.Following.{one-more-may, one-more-next, main-alone}
 use Rattle.kt_world.proofs.HeapNumbers.{heap-numbers-never-fall}
 use Rattle.kt_world.specs.Plain.{job_of}
@@ -13,5 +14,6 @@ returns c =
       next = one-more-next job turns;
       main_alone = main-alone job turns;
       counted = turns-counted job turns;
+      ended = ended-are-gone job turns;
       heap_numbers = heap-numbers-never-fall job turns;
     }
