@@ -1,28 +1,14 @@
 -- Only a turn counts: neither an act nor what is tried after it changes how many turns were made.
-use Rattle.std.specs.Prelude.{◌≡◌, ℕ, pos, suc, ◌+◌, Bool, true, false, List, [], ◌∷◌, length, Option, None, Some, Result, Ok, Err, refl, slice_get, is_none, is_some, nat_le, ◌==◌, ◌&&◌, if◌then◌else◌}
+use Rattle.std.specs.Prelude.{◌≡◌, ℕ, suc, ◌+◌, Bool, true, false, List, [], ◌∷◌, length, Option, None, Some, refl, slice_get, is_none, is_some, nat_le, ◌==◌, ◌&&◌, if◌then◌else◌}
 use Rattle.std.proofs.Common.{ap, ◌∙◌, arith}
-use Rattle.kt_types.specs.Table.{Table}
-use Rattle.kt_mem.specs.declared.memory.Value.{Value}
-use Rattle.kt_mem.specs.declared.memory.Value.TheVariants.{Num}
-use Rattle.kt_mem.specs.declared.steps.Act.{Act}
-use Rattle.kt_mem.specs.declared.steps.Act.TheVariants as act
-use Rattle.kt_mem.specs.declared.steps.Reply.{Reply}
-use Rattle.kt_mem.specs.declared.steps.Reply.TheVariants.{Done, Got, Trapped}
-use Rattle.kt_mem.specs.declared.steps.Trap.{Trap}
-use Rattle.kt_mem.specs.declared.steps.Trap.TheVariants as trap
-use Rattle.kt_mem.specs.declared.thread.Mode.{Mode}
-use Rattle.kt_mem.specs.declared.thread.Mode.TheVariants.{Normal, Updating}
-use Rattle.kt_mem.specs.Memory.{Memory, unlock, signal}
-use Rattle.kt_meaning.specs.Effects as outside
-use Rattle.kt_meaning.specs.Effects.{Outcome, Replies, Waits, Elsewhere}
-use Rattle.kt_meaning.specs.Steps.{Step, Quiet, Acts, Traps, Ends}
 use Rattle.kt_phase.specs.declared.counters.Phase.{Phase}
 use Rattle.kt_phase.specs.declared.counters.Phase.TheVariants.{Run, Asked, Main, Others}
 use Rattle.xf_plan.specs.declared.place.Root.{Root}
 use Rattle.kt_world.specs.declared.mark.Closed.{Closed}
 use Rattle.kt_world.specs.declared.mark.End.{End}
 use Rattle.kt_world.specs.declared.mark.End.TheVariants as end
-use Rattle.kt_world.specs.Acts.{answered, created, new_thread, with_new, joins, waited, signalled, at_point, migrated, elsewhere, on_outcome, ends, effect, act_of, acted, with_shared}
+use Rattle.kt_world.proofs.Acting.{act-same}
+use Rattle.kt_world.specs.Acts.{acted}
 use Rattle.kt_world.specs.Events.{ongoing, on_shared, with_mark, end_marked, ended_as, main_is_normal, main_there, all_normal, all_back, all_parked, closed_up, requested, request, asked, stuck, spent, before_turn, after_act}
 use Rattle.kt_world.specs.Job.{Job, Passage, passage_at, types_at}
 use Rattle.kt_world.specs.Laws.{TurnsAreCounted}
@@ -31,8 +17,8 @@ use Rattle.kt_world.specs.Roots.{thread_roots}
 use Rattle.kt_world.specs.Trees.{tree_engine}
 use Rattle.kt_world.specs.Turns.{counted, first_world, start, turn, world_from}
 use Rattle.kt_world.specs.Update.{closing, decided}
-use Rattle.kt_world.specs.Waiting.{any_enabled, joined}
-use Rattle.kt_world.specs.World.{Engine, Shared, Thread, World, with_outside, outside_of}
+use Rattle.kt_world.specs.Waiting.{any_enabled}
+use Rattle.kt_world.specs.World.{Engine, Shared, World}
 
 module _ {X : Type 0} (e : Engine X) (job : Job) where
   -- as many turns were made
@@ -42,71 +28,6 @@ module _ {X : Type 0} (e : Engine X) (job : Job) where
   by-choice : (b : Bool) (w u v : World X) → Same w u → Same w v → Same w (if b then u else v)
   by-choice true w u v h k = h
   by-choice false w u v h k = k
-
-  -- ---- acts
-
-  answered-same : (w : World X) (t : ℕ) (th : Thread X) (r : Reply) → Same w (answered e w t th r)
-  answered-same w t th Done = refl
-  answered-same w t th (Got v) = refl
-  answered-same w t th (Trapped cause) = refl
-
-  created-same : (w : World X) (t : ℕ) (th : Thread X) (f : ℕ) (a : Value) → Same w (created e w t th f a)
-  created-same w t th f a =
-      by-choice (nat_le 65 (length w.threads)) w _ _ (answered-same w t th (Trapped trap.Threads))
-      (answered-same (with_new w (new_thread e w.shared.version f a)) t th (Got (Num (pos (length w.threads)))))
-
-  joins-same : (w : World X) (t : ℕ) (th : Thread X) (o : Option (Thread X)) → Same w (joins e w t th o)
-  joins-same w t th None = refl
-  joins-same w t th (Some other) = refl
-
-  waited-same : (w : World X) (t : ℕ) (th : Thread X) (p : Value) (r : Result Memory Trap) → Same w (waited e w t th p r)
-  waited-same w t th p (Err cause) = refl
-  waited-same w t th p (Ok m) = refl
-
-  signalled-same : (w : World X) (t : ℕ) (th : Thread X) (p : Value) (all : Bool) (r : Result Memory Trap) → Same w (signalled e w t th p all r)
-  signalled-same w t th p all (Err cause) = refl
-  signalled-same w t th p all (Ok m) = refl
-
-  at_point-same : (w : World X) (t : ℕ) (th : Thread X) (mode : Mode) (phase : Phase) → Same w (at_point e w t th mode phase)
-  at_point-same w t th Normal Run = refl
-  at_point-same w t th Normal Asked = refl
-  at_point-same w t th Normal Main = refl
-  at_point-same w t th Normal Others = refl
-  at_point-same w t th (Updating p) phase = refl
-
-  migrated-same : (mode : Mode) (s : Shared) → (migrated mode s).turns ≡ s.turns
-  migrated-same Normal s = refl
-  migrated-same (Updating p) s = refl
-
-  elsewhere-same : (w : World X) (t : ℕ) (th : Thread X) (a : Act) → Same w (elsewhere e w t th a)
-  elsewhere-same w t th (act.Create f a) = created-same w t th f a
-  elsewhere-same w t th (act.Join n) = joins-same w t th (joined w.threads t n)
-  elsewhere-same w t th (act.Wait p) = waited-same w t th p (unlock w.shared.memory t p)
-  elsewhere-same w t th (act.Signal p all) = signalled-same w t th p all (signal w.shared.memory p)
-  elsewhere-same w t th (act.Point p) = at_point-same w t th (e.mode th.state) w.shared.phase
-  elsewhere-same w t th act.Automigrate =
-      answered-same (with_shared w (migrated (e.mode th.state) w.shared)) t th Done ∙ migrated-same (e.mode th.state) w.shared
-  elsewhere-same w t th _ = refl
-
-  outcome-same : (w : World X) (t : ℕ) (th : Thread X) (a : Act) (o : Outcome) → Same w (on_outcome e w t th a o)
-  outcome-same w t th a (Replies r o) = answered-same (with_shared w (with_outside w.shared o)) t th r
-  outcome-same w t th a Waits = refl
-  outcome-same w t th a Elsewhere = elsewhere-same w t th a
-
-  ends-same : (w : World X) (t : ℕ) (th : Thread X) (a : Act) → Same w (ends e w t th a)
-  ends-same w t th act.ThreadEnd = refl
-  ends-same w t th (act.MainReturn n) = refl
-  ends-same w t th _ = refl
-
-  effect-same : (types : Table) (w : World X) (t : ℕ) (th : Thread X) (s : Step X) → Same w (effect e types w t th s)
-  effect-same types w t th (Quiet x) = refl
-  effect-same types w t th (Acts a go) = outcome-same w t th a (outside.effect types t a (outside_of w.shared))
-  effect-same types w t th (Traps cause) = refl
-  effect-same types w t th (Ends a) = ends-same w t th a
-
-  act-same : (types : Table) (w : World X) (t : ℕ) (o : Option (Thread X)) → Same w (act_of e types w t o)
-  act-same types w t None = refl
-  act-same types w t (Some th) = effect-same types w t th (e.step w.shared.version th.state)
 
   -- ---- what is tried after an act
 
@@ -191,7 +112,7 @@ module _ {X : Type 0} (e : Engine X) (job : Job) where
   turn-counts : (w : World X) (t : ℕ) → (turn e job w t).shared.turns ≡ suc w.shared.turns
   turn-counts w t =
       after_act-same (counted (acted e (types_at job w.shared.version) w t))
-      ∙ ap suc (act-same (types_at job w.shared.version) w t (slice_get w.threads t))
+      ∙ ap suc ((act-same e (types_at job w.shared.version) w t (slice_get w.threads t)).0)
 
   counted-from : (turns : List ℕ) (w : World X) → (world_from e job w turns).shared.turns ≡ length turns + w.shared.turns
   unfolding world_from

@@ -1,4 +1,6 @@
+pub mod Acting
 pub mod Following
 pub mod Counting
 pub mod HeapNumbers
 pub mod Endings
+pub mod Marking

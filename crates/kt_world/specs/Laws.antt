@@ -1,9 +1,12 @@
 -- Laws of worlds, as statements.
-use Rattle.std.specs.Prelude.{◌≡◌, ◌↔◌, ◌≤◌, ℕ, false, List, [], ◌∷◌, ◌++◌, length}
+use Rattle.std.specs.Prelude.{◌≡◌, ◌↔◌, ◌≤◌, ℕ, false, List, [], ◌∷◌, ◌++◌, length, Option, None, Some}
 use Rattle.std.specs.List.{AllByRecursion}
 use Rattle.kt_meaning.specs.Thread as tree
 use Rattle.kt_phase.specs.declared.counters.Phase.TheVariants.{Main}
 use Rattle.kt_world.specs.declared.mark.Closed.{Closed}
+use Rattle.kt_world.specs.declared.mark.End.{End}
+use Rattle.kt_world.specs.declared.mark.Mark.{Mark}
+use Rattle.kt_world.specs.declared.mark.Mark.TheVariants as mark
 use Rattle.kt_world.specs.Job.{Job}
 use Rattle.kt_world.specs.Trees.{AreTurnsOf, tree_engine, world}
 use Rattle.kt_world.specs.Turns.{MayTurn, turn}
@@ -39,6 +42,25 @@ IsGoneIfEnded e th = lives th.standing ≡ false → e.calls th.state ≡ []
 
 abbrev pub EndedAreGone : Job → List ℕ → Type 0
 EndedAreGone job turns = AreTurnsOf job turns → AllByRecursion (IsGoneIfEnded (tree_engine job)) (world job turns).threads
+
+-- the mark tells no end of a run
+abbrev pub IsNoEnd : Mark → Type 0
+IsNoEnd (mark.End turn how) = ⊥
+IsNoEnd m = Unit {0}
+
+-- the end is the last of the marks, and the only one that tells an end
+pub record IsLastEnd (how : End) (marks : List Mark) : Type 0 where
+  pub front : List Mark
+  pub turn : ℕ
+  pub is : marks ≡ front ++ mark.End turn how ∷ []
+  pub others : AllByRecursion IsNoEnd front
+
+abbrev pub EndIsLast : Option End → List Mark → Type 0
+EndIsLast None marks = AllByRecursion IsNoEnd marks
+EndIsLast (Some how) marks = IsLastEnd how marks
+
+abbrev pub EndsAreLast : Job → List ℕ → Type 0
+EndsAreLast job turns = AreTurnsOf job turns → EndIsLast (world job turns).shared.ended (world job turns).shared.marks
 
 -- a refused closing changes neither memory nor code
 pub record StaysAtRefusal (job : Job) (c : Closed) (w : World tree.Thread) : Type 0 where
