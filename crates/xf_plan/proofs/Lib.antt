@@ -1,3 +1,4 @@
 pub mod Among
 pub mod Numbers
 pub mod Reaching
+pub mod Conversions

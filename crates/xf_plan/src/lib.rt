@@ -5,6 +5,7 @@
 #![tactic(auto)]
 
 mod body;
+mod converts;
 mod laws;
 mod place;
 mod plan;
