@@ -7,6 +7,7 @@ use Rattle.xf_plan.specs.declared.place.Root.{Root}
 use Rattle.kt_world.specs.declared.mark.Closed.{Closed}
 use Rattle.kt_world.specs.declared.mark.End.{End}
 use Rattle.kt_world.specs.declared.mark.End.TheVariants as end
+use Rattle.kt_world.specs.declared.mark.Mark.{Mark}
 use Rattle.kt_world.proofs.Acting.{act-same}
 use Rattle.kt_world.specs.Acts.{acted}
 use Rattle.kt_world.specs.Events.{ongoing, on_shared, with_mark, end_marked, ended_as, main_is_normal, main_there, all_normal, all_back, all_parked, closed_up, requested, request, asked, stuck, spent, before_turn, after_act}
@@ -112,7 +113,7 @@ module _ {X : Type 0} (e : Engine X) (job : Job) where
   turn-counts : (w : World X) (t : ℕ) → (turn e job w t).shared.turns ≡ suc w.shared.turns
   turn-counts w t =
       after_act-same (counted (acted e (types_at job w.shared.version) w t))
-      ∙ ap suc ((act-same e (types_at job w.shared.version) w t (slice_get w.threads t)).0)
+      ∙ ap (λ (h : (ℕ × ℕ) × (Phase × List Mark)). suc h.0.0) (act-same e (types_at job w.shared.version) w t (slice_get w.threads t))
 
   counted-from : (turns : List ℕ) (w : World X) → (world_from e job w turns).shared.turns ≡ length turns + w.shared.turns
   unfolding world_from

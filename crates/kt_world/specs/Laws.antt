@@ -8,6 +8,7 @@ use Rattle.kt_world.specs.declared.mark.End.{End}
 use Rattle.kt_world.specs.declared.mark.Mark.{Mark}
 use Rattle.kt_world.specs.declared.mark.Mark.TheVariants as mark
 use Rattle.kt_world.specs.Job.{Job}
+use Rattle.kt_world.specs.Marks.{AreMarks}
 use Rattle.kt_world.specs.Trees.{AreTurnsOf, tree_engine, world}
 use Rattle.kt_world.specs.Turns.{MayTurn, turn}
 use Rattle.kt_world.specs.Update.{refused}
@@ -61,6 +62,13 @@ EndIsLast (Some how) marks = IsLastEnd how marks
 
 abbrev pub EndsAreLast : Job → List ℕ → Type 0
 EndsAreLast job turns = AreTurnsOf job turns → EndIsLast (world job turns).shared.ended (world job turns).shared.marks
+
+-- The marks of a run lead to its phase, and to as many requests and turns as were made: turns never fall, each request is answered by
+-- a closing before the next one is made, and after an accepted closing `main` comes to its point and then all threads to theirs.
+abbrev pub MarksAreInOrder : Job → List ℕ → Type 0
+MarksAreInOrder job turns =
+    AreTurnsOf job turns →
+    AreMarks (world job turns).shared.ended (world job turns).shared.phase (world job turns).shared.requests (world job turns).shared.turns (world job turns).shared.marks
 
 -- a refused closing changes neither memory nor code
 pub record StaysAtRefusal (job : Job) (c : Closed) (w : World tree.Thread) : Type 0 where

@@ -10,5 +10,6 @@ pub mod Turns
 pub mod Scripts
 pub mod Rows
 pub mod Trees
+pub mod Marks
 pub mod Laws
 pub mod Plain

@@ -3,7 +3,7 @@ use Rattle.kt_world.proofs.Endings.{ended-are-gone}
 use Rattle.kt_world.proofs.Following.{one-more-may, one-more-next, main-alone}
 use Rattle.kt_world.proofs.HeapNumbers.{heap-numbers-never-fall}
 use Rattle.kt_world.specs.Plain.{job_of}
-use Rattle.kt_world.proofs.Marking.{ends-are-last}
+use Rattle.kt_world.proofs.Marking.{ends-are-last, marks-are-in-order}
 use Rattle.kt_world.proofs.laws.world_law.Goals as goal
 
 pub returns : goal.returns
@@ -15,6 +15,7 @@ returns c =
       next = one-more-next job turns;
       main_alone = main-alone job turns;
       counted = turns-counted job turns;
+      marks = marks-are-in-order job turns;
       last = ends-are-last job turns;
       ended = ended-are-gone job turns;
       heap_numbers = heap-numbers-never-fall job turns;
