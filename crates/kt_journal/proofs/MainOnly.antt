@@ -1,9 +1,9 @@
 -- In the worlds of a job `main` alone takes turns while an update is on its way.
-use Rattle.std.proofs.Common.{◌≡◌, ℕ, suc, ◌+◌, ◌==◌, nat_le, Bool, true, false, ◌&&◌, List, [], ◌∷◌, ◌++◌, length, map, refl, ap, sym, subst, ◌∙◌, arith, length-append, append_assoc, append-nil}
+use Rattle.std.proofs.Common.{◌≡◌, ℕ, suc, ◌==◌, nat_le, Bool, true, false, ◌&&◌, List, [], ◌∷◌, ◌++◌, length, map, refl, ap, sym, subst, ◌∙◌, arith, length-append, append_assoc, append-nil}
 use Rattle.std.specs.Prelude.{Option, Some, None, is_none, is_some, if◌then◌else◌, slice_get}
 use Rattle.std.specs.List.{AllByRecursion}
 use Rattle.std.specs.Option.{option_map}
-use Rattle.std.proofs.lemmas.Bool.{false≢true, and_parts, eqb-true}
+use Rattle.std.proofs.lemmas.Bool.{false≢true}
 use Rattle.kt_tree.specs.Version.{IsProgram}
 use Rattle.kt_phase.specs.declared.counters.Phase.{Phase}
 use Rattle.kt_phase.specs.declared.counters.Phase.TheVariants.{Run, Asked, Main, Others}
@@ -16,9 +16,9 @@ use Rattle.kt_world.specs.declared.mark.End.TheVariants as end
 use Rattle.kt_world.specs.declared.mark.Mark.{Mark}
 use Rattle.kt_world.specs.declared.mark.Mark.TheVariants as mark
 use Rattle.kt_world.specs.Acts.{acted}
-use Rattle.kt_world.specs.Events.{ongoing, on_shared, with_mark, end_marked, ended_as, main_is_normal, main_there, all_normal, all_back, all_parked, closed_up, requested, request, waiters, asked, stuck, spent, before_turn, after_act}
+use Rattle.kt_world.specs.Events.{ongoing, on_shared, with_mark, end_marked, main_is_normal, main_there, all_normal, all_back, all_parked, closed_up, requested, request, waiters, asked, stuck, spent, before_turn, after_act}
 use Rattle.kt_world.specs.Job.{Job, Passage, passage_at, types_at}
-use Rattle.kt_world.specs.Refusals.{any_held, first_of, if_held, if_too_big, lacks_entry, lacks_point, least, refusal, size_refusal}
+use Rattle.kt_world.specs.Refusals.{any_held, first_of, if_held, if_too_big, lacks_entry, lacks_point, least, refusal}
 use Rattle.kt_world.specs.Roots.{thread_roots}
 use Rattle.kt_world.specs.Trees.{AreTurnsOf, tree_engine, world}
 use Rattle.kt_world.specs.Turns.{MayTurn, MayTurnAll, counted, first_world, start, turn, world_from}

@@ -1,5 +1,5 @@
 -- The names of a program are words of a line.
-use Rattle.std.proofs.Common.{◌≡◌, ℕ, zero, suc, Bool, true, false, List, [], ◌∷◌, ◌++◌, map, refl, sym, subst, ◌∙◌}
+use Rattle.std.proofs.Common.{◌≡◌, ℕ, zero, suc, Bool, true, false, List, [], ◌∷◌, ◌++◌, map, refl}
 use Rattle.std.specs.Prelude.{Option, Some, None, slice_get, ◌&&◌}
 use Rattle.std.specs.List.{list_all, AllByRecursion}
 use Rattle.std.proofs.lemmas.Bool.{false≢true, and_parts}
@@ -10,7 +10,7 @@ use Rattle.kt_tree.specs.Tree.{Function}
 use Rattle.kt_tree.specs.Version.{Program, IsProgram, IsFunction, global_names, function_names}
 use Rattle.kt_grammar.specs.Identifiers.{is_identifier}
 use Rattle.kt_world.specs.Job.{Job, version_at}
-use Rattle.kt_journal.specs.Marks.{name_of_global, name_of_function, name_of_local, function_at, local_at, global_name, function_name, local_name}
+use Rattle.kt_journal.specs.Marks.{name_of_global, name_of_function, name_of_local, local_at, global_name, function_name, local_name}
 use Rattle.kt_journal.proofs.Clean.{name-cleans}
 use Rattle.kt_journal.proofs.Splitting.{IsClean}
 

@@ -1,10 +1,11 @@
 -- The lines of turns, and the lines of a journal with one mark more.
 use Rattle.std.proofs.Common.{◌≡◌, ℕ, zero, suc, ◌+◌, ◌-◌, ◌<◌, min, Bool, true, false, eqb-true, eq-eqb, List, [], ◌∷◌, ◌++◌, length, get_or, take, drop, map, replicate, refl, ap, sym, ◌∙◌, arith, append_assoc, append-nil, codes}
-use Rattle.std.specs.Prelude.{◌==◌, if◌then◌else◌}
+use Rattle.std.specs.Prelude.{◌==◌, Option, if◌then◌else◌}
 use Rattle.std.proofs.lemmas.List.{drop_more, replicate_more}
 use Rattle.std.specs.Fmt.{decimal}
 use Rattle.kt_text.specs.Lines.{line_of}
 use Rattle.kt_world.specs.declared.mark.Mark as world
+use Rattle.kt_tree.specs.Version.{Program}
 use Rattle.kt_world.specs.Job.{Job, version_at}
 use Rattle.kt_journal.specs.declared.kit.Kit.{Kit}
 use Rattle.kt_journal.specs.Grammar.{Words}
@@ -161,10 +162,11 @@ step_other text all pushed new count u one v i turns texts threads counts h othe
     (other_turn text pushed all count u (get_or turns i 0) (drop (i + 1) turns) (unequal (get_or turns i 0) u (get_or turns i 0 == u) refl other) row
     (ap (λ l. text ++ text_in (with_turns (replicate count u ++ l) [])) (sym (drop_more turns i 0 h)) ∙ so_far))
 
-pub step_mark : (kit : Kit) (job : Job) (text all rows new before behind : List ℕ) (v w made turn apart count : ℕ) (turns : List ℕ) (marks : List world.Mark) (i : ℕ) (d : world.Mark) → i < length marks
-    → w ≡ version_after (get_or marks i d) v → turn ≡ turn_of (get_or marks i d) → apart ≡ turn - made → count ≡ min apart (length turns) → before ≡ take count turns → behind ≡ drop count turns
-    → rows ≡ text ++ text_in (with_turns before []) → new ≡ rows ++ line_of (mark_words kit (version_at job (suc v)) (get_or marks i d))
+pub step_mark : (kit : Kit) (job : Job) (text all rows new before behind : List ℕ) (v w made turn apart count : ℕ) (o : Option Program) (turns : List ℕ) (marks : List world.Mark) (i : ℕ) (d : world.Mark) → i < length marks
+    → o ≡ version_at job (v + 1) → w ≡ version_after (get_or marks i d) v → turn ≡ turn_of (get_or marks i d) → apart ≡ turn - made → count ≡ min apart (length turns) → before ≡ take count turns → behind ≡ drop count turns
+    → rows ≡ text ++ text_in (with_turns before []) → new ≡ rows ++ line_of (mark_words kit o (get_or marks i d))
     → text ++ text_in (entries_from kit job v made turns (drop i marks)) ≡ all
     → new ++ text_in (entries_from kit job w turn behind (drop (i + 1) marks)) ≡ all
-step_mark kit job text all rows new before behind v w made turn apart count turns marks i d h versions turns_so_far parted_by counted front back pushed marked so_far =
-    rw (marked, pushed, front, back, counted, parted_by, versions, turns_so_far) (next_mark kit job text all v made turns marks i d h so_far)
+step_mark kit job text all rows new before behind v w made turn apart count o turns marks i d h next versions turns_so_far parted_by counted front back pushed marked so_far =
+    let later : o ≡ version_at job (suc v) = next ∙ ap (version_at job) (omega arith) in
+    rw (marked, later, pushed, front, back, counted, parted_by, versions, turns_so_far) (next_mark kit job text all v made turns marks i d h so_far)

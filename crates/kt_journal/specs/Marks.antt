@@ -8,7 +8,6 @@ use Rattle.kt_mem.specs.declared.steps.Trap.TheVariants as trap
 use Rattle.kt_tree.specs.declared.global.GlobalDecl.{GlobalDecl}
 use Rattle.kt_tree.specs.Tree.{Function}
 use Rattle.kt_tree.specs.Version.{Program}
-use Rattle.xf_plan.specs.declared.place.Fault.{Fault}
 use Rattle.xf_plan.specs.declared.place.Place.{Place}
 use Rattle.xf_plan.specs.declared.place.Place.TheVariants as place
 use Rattle.xf_plan.specs.declared.place.Why.{Why}

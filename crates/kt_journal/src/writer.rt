@@ -1,6 +1,6 @@
 //! Writes a journal.
 
-ghost use Rattle.std.specs.Prelude.{◌≡◌, ◌<◌, ◌^◌, ◌++◌, ◌∷◌, [], codes, map, replicate, IfOk, OnOk};
+ghost use Rattle.std.specs.Prelude.{◌≡◌, ◌<◌, ◌≤◌, ◌+◌, ◌^◌, ◌++◌, ◌∷◌, [], codes, map, replicate, IfOk, OnOk};
 ghost use Rattle.std.specs.Fmt.{decimal};
 ghost use Rattle.std.specs.Option.{option_copied};
 ghost use Rattle.kt_text.specs.Lines.{line_of};
@@ -61,7 +61,8 @@ fn version_at(job: &Job, version: usize) -> Option<&Version>
 // The number of the version in force behind a mark.
 fn version_after(mark: &Mark, version: usize) -> usize
     requires { version < 2 ^ 63 }
-    ensures { result ≡ spec.version_after mark.now version }
+    ensures version { result ≡ spec.version_after mark.now version }
+    ensures within { result ≤ version + 1 }
 {
     if is_update(mark) { version + 1 } else { version }
 }
