@@ -61,7 +61,10 @@ pub fn is_update(mark: &Mark) -> bool
     ensures { result ≡ spec.is_update mark.now }
 {
     match mark {
-        Mark::Close { closed: Closed::Ok(_), .. } => true,
+        Mark::Close {
+            closed: Closed::Ok(_),
+            ..
+        } => true,
         _ => false,
     }
 }

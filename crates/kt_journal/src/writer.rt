@@ -64,7 +64,11 @@ fn version_after(mark: &Mark, version: usize) -> usize
     ensures version { result ≡ spec.version_after mark.now version }
     ensures within { result ≤ version + 1 }
 {
-    if is_update(mark) { version + 1 } else { version }
+    if is_update(mark) {
+        version + 1
+    } else {
+        version
+    }
 }
 
 // Turns of one thread in a row are one line.
