@@ -86,7 +86,7 @@ one-cleans (text ∷ texts) clean word one =
 number-cleans : (most : ℕ) → Cleans (is_number_up_to most)
 number-cleans most word holds = digits-clean word (number-digits most word holds)
 
-name-cleans : Cleans is_identifier
+pub name-cleans : Cleans is_identifier
 name-cleans [] holds = absurd (false≢true holds)
 name-cleans (b ∷ bytes) holds =
     let outer = and_parts (not (is_ascii_digit b) && list_all is_word_byte (b ∷ bytes)) (not (is_among keywords (b ∷ bytes))) holds in

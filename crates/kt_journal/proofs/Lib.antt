@@ -3,9 +3,11 @@ pub mod Clean
 pub mod Entries
 pub mod Lines
 pub mod MainOnly
+pub mod Named
 pub mod Numbers
 pub mod Once
 pub mod SoFar
+pub mod Spaced
 pub mod Splitting
 pub mod Writing
 pub mod Turning

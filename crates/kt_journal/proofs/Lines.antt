@@ -1,23 +1,33 @@
 -- The lines of a journal that was written.
 use Rattle.std.proofs.Common.{◌≡◌, ℕ, zero, suc, ◌+◌, ◌-◌, take, drop, ◌/◌, ◌%◌, ◌<◌, true, false, ◌||◌, List, [], ◌∷◌, ◌++◌, map, refl, ap, ◌∙◌, arith, codes, pos, negsuc, ℤ}
-use Rattle.std.specs.Prelude.{◌==◌, if◌then◌else◌}
+use Rattle.std.specs.Prelude.{◌==◌, Option, Some, None, if◌then◌else◌}
 use Rattle.std.specs.Fmt.{decimal, signed_decimal, digits, digits_onto, digit_glyph}
 use Rattle.std.specs.List.{join_with_byte, AllByRecursion}
 use Rattle.std.proofs.lemmas.Bool.Decides.{nat_tests}
 use Rattle.kt_mem.specs.declared.steps.Trap.{Trap}
 use Rattle.kt_mem.specs.declared.steps.Trap.TheVariants as trap
-use Rattle.kt_lone.specs.declared.mark.Closed.TheVariants as closed
-use Rattle.kt_lone.specs.declared.mark.End.{End}
-use Rattle.kt_lone.specs.declared.mark.End.TheVariants as end
-use Rattle.kt_lone.specs.declared.mark.Mark.{Mark}
-use Rattle.kt_lone.specs.declared.mark.Mark.TheVariants as mark
-use Rattle.kt_journal.specs.declared.kit.Kit.TheVariants.{First}
+use Rattle.kt_tree.specs.Version.{Program, IsProgram}
+use Rattle.xf_plan.specs.declared.place.Place.{Place}
+use Rattle.xf_plan.specs.declared.place.Place.TheVariants as place
+use Rattle.xf_plan.specs.declared.place.Why.{Why}
+use Rattle.xf_plan.specs.declared.place.Why.TheVariants as why
+use Rattle.kt_world.specs.Job.{Job, version_at}
+use Rattle.kt_world.specs.declared.mark.Closed.{Closed}
+use Rattle.kt_world.specs.declared.mark.Closed.TheVariants as closed
+use Rattle.kt_world.specs.declared.mark.End.{End}
+use Rattle.kt_world.specs.declared.mark.End.TheVariants as end
+use Rattle.kt_world.specs.declared.mark.Mark.{Mark}
+use Rattle.kt_world.specs.declared.mark.Mark.TheVariants as mark
+use Rattle.kt_journal.specs.declared.kit.Kit.{Kit}
+use Rattle.kt_journal.specs.declared.kit.Kit.TheVariants.{First, Second}
 use Rattle.kt_journal.specs.Grammar.{Words}
 use Rattle.kt_journal.specs.Journal as journal
 use Rattle.kt_journal.specs.Journal.{Entry, Turns, words_of, kit_words, text_of, front_of}
 use Rattle.kt_journal.specs.Reading.{with_byte, split}
 use Rattle.kt_journal.specs.Runs.{lines_in}
-use Rattle.kt_journal.specs.Written.{trap_name, end_words, mark_words, turn_of, with_turn, with_turns, entries_from}
+use Rattle.kt_journal.specs.Marks.{trap_name, place_words, why_name, trap_in, trap_words, closed_words, end_words, mark_words, turn_of}
+use Rattle.kt_journal.specs.Written.{with_turn, with_turns, version_after, entries_from}
+use Rattle.kt_journal.proofs.Named.{IsProgramIf, program-at, global-clean, function-clean, local-clean}
 use Rattle.kt_journal.proofs.Splitting.{has, IsClean, AreClean, IsSomeWords, or-parts, words-split, join-clean, line-whole}
 
 -- ---- lines
@@ -98,13 +108,44 @@ end-line end.Budget = (((refl, refl), ((refl, refl), tt)), refl)
 numbered-line : (word : List ℕ) (k : ℕ) → IsClean word → IsLine (word ∷ (decimal k ∷ []))
 numbered-line word k clean = ((clean, (number-clean k, tt)), refl)
 
-mark-line : (m : Mark) → IsLine (mark_words m)
-mark-line (mark.Ask turn k) = numbered-line (codes "ask") k (refl, refl)
-mark-line (mark.Close turn k (closed.Ok images)) = (((refl, refl), (number-clean k, ((refl, refl), (number-clean images, tt)))), refl)
-mark-line (mark.Close turn k (closed.Point thread)) = (((refl, refl), (number-clean k, ((refl, refl), ((refl, refl), (number-clean thread, tt))))), refl)
-mark-line (mark.MainThere turn k) = numbered-line (codes "main") k (refl, refl)
-mark-line (mark.Back turn k) = numbered-line (codes "back") k (refl, refl)
-mark-line (mark.End turn how) = end-line how
+place-clean : (new : Option Program) (p : Place) → IsProgramIf new → AreClean (place_words new p)
+place-clean new (place.GlobalCell g cell) is = ((refl, refl), (global-clean new g is, (number-clean cell, tt)))
+place-clean new (place.Argument thread) is = ((refl, refl), (number-clean thread, tt))
+place-clean new (place.Local thread f x) is = ((refl, refl), (number-clean thread, (function-clean new f is, (local-clean new f x is, tt))))
+place-clean new (place.HeapCell number cell) is = ((refl, refl), (number-clean number, (number-clean cell, tt)))
+
+append-clean : (words more : Words) → AreClean words → AreClean more → AreClean (words ++ more)
+append-clean [] more clean clean_too = clean_too
+append-clean (word ∷ words) more clean clean_too = (clean.0, append-clean words more clean.1 clean_too)
+
+why-clean : (w : Why) → IsClean (why_name w)
+why-clean (why.Rule cause) = (refl, refl)
+why-clean why.Interior = (refl, refl)
+why-clean why.Gone = (refl, refl)
+why-clean why.Retyped = (refl, refl)
+why-clean why.Extent = (refl, refl)
+
+cause-clean : (o : Option Trap) → AreClean (trap_words o)
+cause-clean None = tt
+cause-clean (Some cause) = (trap-clean cause, tt)
+
+closed-clean : (new : Option Program) (how : Closed) → IsProgramIf new → AreClean (closed_words new how)
+closed-clean new (closed.Ok images) is = ((refl, refl), (number-clean images, tt))
+closed-clean new closed.Held is = ((refl, refl), ((refl, refl), tt))
+closed-clean new (closed.Point thread) is = ((refl, refl), ((refl, refl), (number-clean thread, tt)))
+closed-clean new (closed.Entry thread) is = ((refl, refl), ((refl, refl), (number-clean thread, tt)))
+closed-clean new (closed.At fault) is =
+    let where_it_is = place_words new fault.place in
+    ((refl, refl), (why-clean fault.why, append-clean where_it_is (trap_words (trap_in fault.why)) (place-clean new fault.place is) (cause-clean (trap_in fault.why))))
+closed-clean new closed.Size is = ((refl, refl), ((refl, refl), tt))
+
+mark-line : (kit : Kit) (new : Option Program) (m : Mark) → IsProgramIf new → IsLine (mark_words kit new m)
+mark-line First new (mark.Ask turn k woken) is = numbered-line (codes "ask") k (refl, refl)
+mark-line Second new (mark.Ask turn k woken) is = (((refl, refl), (number-clean k, (number-clean woken, tt))), refl)
+mark-line kit new (mark.Close turn k how) is = (((refl, refl), (number-clean k, closed-clean new how is)), refl)
+mark-line kit new (mark.MainThere turn k) is = numbered-line (codes "main") k (refl, refl)
+mark-line kit new (mark.Back turn k) is = numbered-line (codes "back") k (refl, refl)
+mark-line kit new (mark.End turn how) is = end-line how
 
 -- ---- lines that are written
 
@@ -125,12 +166,21 @@ turns-lines : (turns : List ℕ) (entries : List Entry) → AreLines entries →
 turns-lines [] entries all = all
 turns-lines (t ∷ turns) entries all = turn-lines t (with_turns turns entries) (turns-lines turns entries all)
 
-pub written-lines : (made : ℕ) (turns : List ℕ) (marks : List Mark) → AreLines (entries_from made turns marks)
-written-lines made turns [] = turns-lines turns [] tt
-written-lines made turns (m ∷ marks) =
-    let rest = entries_from (turn_of m) (drop (turn_of m - made) turns) marks in
-    turns-lines (take (turn_of m - made) turns) (journal.Mark (mark_words m) ∷ rest) (mark-line m, written-lines (turn_of m) (drop (turn_of m - made) turns) marks)
+pub written-lines : (kit : Kit) (job : Job) → AllByRecursion IsProgram job.versions → (v made : ℕ) (turns : List ℕ) (marks : List Mark)
+    → AreLines (entries_from kit job v made turns marks)
+written-lines kit job programs v made turns [] = turns-lines turns [] tt
+written-lines kit job programs v made turns (m ∷ marks) =
+    let new = version_at job (suc v) in
+    let rest = entries_from kit job (version_after m v) (turn_of m) (drop (turn_of m - made) turns) marks in
+    turns-lines (take (turn_of m - made) turns) (journal.Mark (mark_words kit new m) ∷ rest) (
+      mark-line kit new m (program-at job programs (suc v)),
+      written-lines kit job programs (version_after m v) (turn_of m) (drop (turn_of m - made) turns) marks,
+    )
+
+kit-line : (kit : Kit) → IsLine (kit_words kit)
+kit-line First = (((refl, refl), ((refl, refl), tt)), refl)
+kit-line Second = (((refl, refl), ((refl, refl), tt)), refl)
 
 -- the lines of a journal
-pub front-lines : (entries : List Entry) → AreLines entries → map split (lines_in (front_of First entries)) ≡ kit_words First ∷ map words_of entries
-front-lines entries all = text-lines (kit_words First ∷ map words_of entries) ((((refl, refl), ((refl, refl), tt)), refl), all)
+pub front-lines : (kit : Kit) (entries : List Entry) → AreLines entries → map split (lines_in (front_of kit entries)) ≡ kit_words kit ∷ map words_of entries
+front-lines kit entries all = text-lines (kit_words kit ∷ map words_of entries) (kit-line kit, all)

@@ -1,13 +1,17 @@
 -- The lines of turns, and the lines of a journal with one mark more.
 use Rattle.std.proofs.Common.{◌≡◌, ℕ, zero, suc, ◌+◌, ◌-◌, ◌<◌, min, Bool, true, false, eqb-true, eq-eqb, List, [], ◌∷◌, ◌++◌, length, get_or, take, drop, map, replicate, refl, ap, sym, ◌∙◌, arith, append_assoc, append-nil, codes}
-use Rattle.std.specs.Prelude.{◌==◌, if◌then◌else◌}
+use Rattle.std.specs.Prelude.{◌==◌, Option, if◌then◌else◌}
 use Rattle.std.proofs.lemmas.List.{drop_more, replicate_more}
 use Rattle.std.specs.Fmt.{decimal}
 use Rattle.kt_text.specs.Lines.{line_of}
-use Rattle.kt_lone.specs.declared.mark.Mark as world
+use Rattle.kt_world.specs.declared.mark.Mark as world
+use Rattle.kt_tree.specs.Version.{Program}
+use Rattle.kt_world.specs.Job.{Job, version_at}
+use Rattle.kt_journal.specs.declared.kit.Kit.{Kit}
 use Rattle.kt_journal.specs.Grammar.{Words}
 use Rattle.kt_journal.specs.Journal.{Entry, Turns, Mark, words_of, text_of}
-use Rattle.kt_journal.specs.Written.{mark_words, turn_of, with_turn, with_turns, entries_from}
+use Rattle.kt_journal.specs.Marks.{mark_words, turn_of}
+use Rattle.kt_journal.specs.Written.{with_turn, with_turns, version_after, entries_from}
 
 -- the text of lines
 abbrev pub text_in : List Entry → List ℕ
@@ -50,22 +54,23 @@ mark-text : (k turn : ℕ) (turns : List ℕ) (ws : Words) (es : List Entry) →
 mark-text k turn turns ws es = ap text_in (with_turns-mark (take k turns) ws es) ∙ text_in-append (with_turns (take k turns) []) (Mark ws ∷ es)
 
 -- the lines of what is left begin with those of the turns before the next mark, and the mark's
-pub next_mark : (text all : List ℕ) (made : ℕ) (turns : List ℕ) (marks : List world.Mark) (i : ℕ) (d : world.Mark) → i < length marks
-    → text ++ text_in (entries_from made turns (drop i marks)) ≡ all
+pub next_mark : (kit : Kit) (job : Job) (text all : List ℕ) (v made : ℕ) (turns : List ℕ) (marks : List world.Mark) (i : ℕ) (d : world.Mark) → i < length marks
+    → text ++ text_in (entries_from kit job v made turns (drop i marks)) ≡ all
     → let m = get_or marks i d in
     let count = min (turn_of m - made) (length turns) in
-    ((text ++ text_in (with_turns (take count turns) [])) ++ line_of (mark_words m)) ++ text_in (entries_from (turn_of m) (drop count turns) (drop (i + 1) marks)) ≡ all
-next_mark text all made turns marks i d in_range so_far =
+    ((text ++ text_in (with_turns (take count turns) [])) ++ line_of (mark_words kit (version_at job (suc v)) m)) ++ text_in (entries_from kit job (version_after m v) (turn_of m) (drop count turns) (drop (i + 1) marks)) ≡ all
+next_mark kit job text all v made turns marks i d in_range so_far =
     let m = get_or marks i d in
     let k = turn_of m - made in
-    let later = λ (rest : List ℕ). text_in (entries_from (turn_of m) rest (drop (i + 1) marks)) in
+    let words = mark_words kit (version_at job (suc v)) m in
+    let later = λ (rest : List ℕ). text_in (entries_from kit job (version_after m v) (turn_of m) rest (drop (i + 1) marks)) in
     let first = λ (front : List ℕ). text_in (with_turns front []) in
-    ap (λ front. ((text ++ first front) ++ line_of (mark_words m)) ++ later (drop (min k (length turns)) turns)) (take-min k turns)
-    ∙ ap (λ rest. ((text ++ first (take k turns)) ++ line_of (mark_words m)) ++ later rest) (drop-min k turns)
-    ∙ append_assoc (text ++ first (take k turns)) (line_of (mark_words m)) (later (drop k turns))
-    ∙ append_assoc text (first (take k turns)) (line_of (mark_words m) ++ later (drop k turns))
-    ∙ ap (λ l. text ++ l) (sym (mark-text k (turn_of m) turns (mark_words m) (entries_from (turn_of m) (drop k turns) (drop (i + 1) marks))))
-    ∙ ap (λ l. text ++ text_in (entries_from made turns l)) (sym (drop_more marks i d in_range))
+    ap (λ front. ((text ++ first front) ++ line_of words) ++ later (drop (min k (length turns)) turns)) (take-min k turns)
+    ∙ ap (λ rest. ((text ++ first (take k turns)) ++ line_of words) ++ later rest) (drop-min k turns)
+    ∙ append_assoc (text ++ first (take k turns)) (line_of words) (later (drop k turns))
+    ∙ append_assoc text (first (take k turns)) (line_of words ++ later (drop k turns))
+    ∙ ap (λ l. text ++ l) (sym (mark-text k (turn_of m) turns words (entries_from kit job (version_after m v) (turn_of m) (drop k turns) (drop (i + 1) marks))))
+    ∙ ap (λ l. text ++ text_in (entries_from kit job v made turns l)) (sym (drop_more marks i d in_range))
     ∙ so_far
 
 -- ---- turns in a row
@@ -157,10 +162,11 @@ step_other text all pushed new count u one v i turns texts threads counts h othe
     (other_turn text pushed all count u (get_or turns i 0) (drop (i + 1) turns) (unequal (get_or turns i 0) u (get_or turns i 0 == u) refl other) row
     (ap (λ l. text ++ text_in (with_turns (replicate count u ++ l) [])) (sym (drop_more turns i 0 h)) ∙ so_far))
 
-pub step_mark : (text all rows new before behind : List ℕ) (made turn apart count : ℕ) (turns : List ℕ) (marks : List world.Mark) (i : ℕ) (d : world.Mark) → i < length marks
-    → turn ≡ turn_of (get_or marks i d) → apart ≡ turn - made → count ≡ min apart (length turns) → before ≡ take count turns → behind ≡ drop count turns
-    → rows ≡ text ++ text_in (with_turns before []) → new ≡ rows ++ line_of (mark_words (get_or marks i d))
-    → text ++ text_in (entries_from made turns (drop i marks)) ≡ all
-    → new ++ text_in (entries_from turn behind (drop (i + 1) marks)) ≡ all
-step_mark text all rows new before behind made turn apart count turns marks i d h turns_so_far parted_by counted front back pushed marked so_far =
-    rw (marked, pushed, front, back, counted, parted_by, turns_so_far) (next_mark text all made turns marks i d h so_far)
+pub step_mark : (kit : Kit) (job : Job) (text all rows new before behind : List ℕ) (v w made turn apart count : ℕ) (o : Option Program) (turns : List ℕ) (marks : List world.Mark) (i : ℕ) (d : world.Mark) → i < length marks
+    → o ≡ version_at job (v + 1) → w ≡ version_after (get_or marks i d) v → turn ≡ turn_of (get_or marks i d) → apart ≡ turn - made → count ≡ min apart (length turns) → before ≡ take count turns → behind ≡ drop count turns
+    → rows ≡ text ++ text_in (with_turns before []) → new ≡ rows ++ line_of (mark_words kit o (get_or marks i d))
+    → text ++ text_in (entries_from kit job v made turns (drop i marks)) ≡ all
+    → new ++ text_in (entries_from kit job w turn behind (drop (i + 1) marks)) ≡ all
+step_mark kit job text all rows new before behind v w made turn apart count o turns marks i d h next versions turns_so_far parted_by counted front back pushed marked so_far =
+    let later : o ≡ version_at job (suc v) = next ∙ ap (version_at job) (omega arith) in
+    rw (marked, later, pushed, front, back, counted, parted_by, versions, turns_so_far) (next_mark kit job text all v made turns marks i d h so_far)

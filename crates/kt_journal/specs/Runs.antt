@@ -1,14 +1,14 @@
 -- The journal of a job's turns, and what its lines say of an update on its way: from an accepted closing up to the line that
 -- tells that `main` is at its point, or that the run has ended, all turns are those of `main`.
 use Rattle.std.specs.Prelude.{◌≡◌, ℕ, ◌==◌, ◌&&◌, ◌||◌, not, Bool, true, false, List, [], ◌∷◌, map, codes, if◌then◌else◌}
-use Rattle.kt_lone.specs.Job.{Job}
-use Rattle.kt_lone.specs.Turn.{world}
+use Rattle.kt_world.specs.Job.{Job}
+use Rattle.kt_world.specs.Trees.{world}
 use Rattle.kt_journal.specs.Grammar.{Words, is, is_of}
 use Rattle.kt_journal.specs.Reading.{with_byte, split}
 use Rattle.kt_journal.specs.Written.{journal_of}
 
 abbrev pub journal_in : Job → List ℕ → List ℕ
-journal_in job turns = journal_of turns (world job turns).shared.marks
+journal_in job turns = journal_of job turns (world job turns).shared.marks
 
 -- ---- the lines of a text
 

@@ -7,7 +7,10 @@ mod form;
 mod kit;
 mod laws;
 mod line;
+mod mark;
+mod names;
 mod reader;
+mod refusal;
 mod word;
 mod writer;
 

@@ -1,23 +1,31 @@
 //! Writes a journal.
 
-ghost use Rattle.std.specs.Prelude.{◌≡◌, ◌++◌, ◌∷◌, [], codes, map, replicate, IfOk, OnOk};
+ghost use Rattle.std.specs.Prelude.{◌≡◌, ◌<◌, ◌≤◌, ◌+◌, ◌^◌, ◌++◌, ◌∷◌, [], codes, map, replicate, IfOk, OnOk};
 ghost use Rattle.std.specs.Fmt.{decimal};
+ghost use Rattle.std.specs.Option.{option_copied};
 ghost use Rattle.kt_text.specs.Lines.{line_of};
-ghost use Rattle.kt_journal.specs.Journal.{text_of, words_of};
+ghost use Rattle.kt_world.specs.Job.{version_at};
+ghost use Rattle.kt_world.specs.Plain.{job_of};
+ghost use Rattle.kt_journal.specs.Journal.{text_of, words_of, kit_words};
+ghost use Rattle.kt_journal.specs.Marks as marks;
 ghost use Rattle.kt_journal.specs.Written as spec;
 
+use super::kit::Kit;
+use super::mark::{is_update, kit_of, push_mark, turn_of};
 use itoa::Buffer;
-use kt_lone::job::Job;
-use kt_lone::mark::{Closed, End, Mark};
-use kt_mem::Trap;
 use kt_text::push_line;
+use kt_tree::Version;
+use kt_world::{Job, Mark};
 use std::alloc::{AllocError, Global};
 
-/// The journal of these turns of the job and of the marks between them.
-pub fn write(alloc: Global, _job: &Job, turns: &[u8], marks: &[Mark]) -> Result<Vec<u8>, AllocError>
-    ensures { IfOk result (λ text. text.items ≡ spec.journal_of turns.now marks.now) }
+/// The journal of these turns of the job and of the marks between them. What stands at a place of a refused closing has the
+/// name that the version has which the closing was to bring.
+pub fn write(alloc: Global, job: &Job, turns: &[u8], marks: &[Mark]) -> Result<Vec<u8>, AllocError>
+    ensures { IfOk result (λ text. text.items ≡ spec.journal_of (job_of job.now) turns.now marks.now) }
 {
-    let mut text = Vec::from_slice(alloc, b"kit 1\n")?;
+    let kit = kit_of(marks);
+    let mut text = Vec::from_slice(alloc, first_line(kit))?;
+    let mut version = 0;
     let mut made = 0;
     let mut rest = turns;
     for mark in marks {
@@ -25,7 +33,8 @@ pub fn write(alloc: Global, _job: &Job, turns: &[u8], marks: &[Mark]) -> Result<
         let count = turn.saturating_sub(made) as usize;
         let (before, behind) = rest.split_at(count.min(rest.len()));
         push_turns(&mut text, before)?;
-        push_mark(&mut text, mark)?;
+        push_mark(&mut text, kit, version_at(job, version + 1), mark)?;
+        version = version_after(mark, version);
         made = turn;
         rest = behind;
     }
@@ -33,15 +42,32 @@ pub fn write(alloc: Global, _job: &Job, turns: &[u8], marks: &[Mark]) -> Result<
     Ok(text)
 }
 
-fn turn_of(mark: &Mark) -> u32
-    ensures { result ≡ spec.turn_of mark.now }
+fn first_line(kit: Kit) -> &'static [u8]
+    ensures { result.now ≡ line_of (kit_words kit) }
 {
-    match mark {
-        Mark::Ask { turn, .. }
-        | Mark::Close { turn, .. }
-        | Mark::MainThere { turn, .. }
-        | Mark::Back { turn, .. }
-        | Mark::End { turn, .. } => *turn,
+    match kit {
+        Kit::First => b"kit 1\n",
+        Kit::Second => b"kit 2\n",
+    }
+}
+
+// The version of that number.
+fn version_at(job: &Job, version: usize) -> Option<&Version>
+    ensures { option_copied result ≡ version_at (job_of job.now) version }
+{
+    job.versions.get(version)
+}
+
+// The number of the version in force behind a mark.
+fn version_after(mark: &Mark, version: usize) -> usize
+    requires { version < 2 ^ 63 }
+    ensures version { result ≡ spec.version_after mark.now version }
+    ensures within { result ≤ version + 1 }
+{
+    if is_update(mark) {
+        version + 1
+    } else {
+        version
     }
 }
 
@@ -85,89 +111,4 @@ fn push_row(text: &mut Vec<u8>, thread: u8, count: usize) -> Result<(), AllocErr
             second.format(count).as_bytes(),
         ],
     )
-}
-
-fn push_mark(text: &mut Vec<u8>, mark: &Mark) -> Result<(), AllocError>
-    ensures { OnOk result (text.new.items ≡ text.old.items ++ line_of (spec.mark_words mark.now)) }
-{
-    match *mark {
-        Mark::Ask { k, .. } => push_numbered(text, b"ask", k),
-        Mark::Close { k, closed, .. } => push_closed(text, k, closed),
-        Mark::MainThere { k, .. } => push_numbered(text, b"main", k),
-        Mark::Back { k, .. } => push_numbered(text, b"back", k),
-        Mark::End { how, .. } => push_end(text, how),
-    }
-}
-
-fn push_numbered(text: &mut Vec<u8>, word: &[u8], number: u8) -> Result<(), AllocError>
-    ensures { OnOk result (text.new.items ≡ text.old.items ++ line_of (word.now ∷ decimal number ∷ [])) }
-{
-    let mut buffer = Buffer::new();
-    push_line(text, &[word, buffer.format(number).as_bytes()])
-}
-
-fn push_closed(text: &mut Vec<u8>, request: u8, closed: Closed) -> Result<(), AllocError>
-    ensures { OnOk result (text.new.items ≡ text.old.items ++ line_of (codes "close" ∷ decimal request ∷ spec.closed_words closed)) }
-{
-    let (mut first, mut second) = (Buffer::new(), Buffer::new());
-    let request = first.format(request).as_bytes();
-    match closed {
-        Closed::Ok(images) => push_line(
-            text,
-            &[b"close", request, b"ok", second.format(images).as_bytes()],
-        ),
-        Closed::Point(thread) => push_line(
-            text,
-            &[
-                b"close",
-                request,
-                b"refused",
-                b"point",
-                second.format(thread).as_bytes(),
-            ],
-        ),
-    }
-}
-
-fn push_end(text: &mut Vec<u8>, how: End) -> Result<(), AllocError>
-    ensures { OnOk result (text.new.items ≡ text.old.items ++ line_of (spec.end_words how)) }
-{
-    let mut buffer = Buffer::new();
-    match how {
-        End::Main(value) => push_line(text, &[b"end", b"main", buffer.format(value).as_bytes()]),
-        End::Trap(thread, cause) => push_line(
-            text,
-            &[
-                b"end",
-                b"trap",
-                buffer.format(thread).as_bytes(),
-                trap_name(cause).as_bytes(),
-            ],
-        ),
-        End::Stuck => push_line(text, &[b"end", b"stuck"]),
-        End::Budget => push_line(text, &[b"end", b"budget"]),
-    }
-}
-
-fn trap_name(trap: Trap) -> &'static str
-    ensures { result.now ≡ spec.trap_name trap }
-{
-    match trap {
-        Trap::Overflow => "overflow",
-        Trap::Zero => "zero",
-        Trap::Range => "range",
-        Trap::Null => "null",
-        Trap::Dead => "dead",
-        Trap::Bounds => "bounds",
-        Trap::Uninit => "uninit",
-        Trap::Literal => "literal",
-        Trap::Free => "free",
-        Trap::Mutex => "mutex",
-        Trap::Thread => "thread",
-        Trap::Threads => "threads",
-        Trap::Size => "size",
-        Trap::Heap => "heap",
-        Trap::Depth => "depth",
-        Trap::Output => "output",
-    }
 }

@@ -49,7 +49,7 @@ turnable e w t (Some th) may =
     let outer = and_parts (takes_turns th.standing && is_turnable w.shared.phase t) waits may in
     (and_parts (takes_turns th.standing) (is_turnable w.shared.phase t) outer.0).1
 
-alone : {X : Type 0} (e : Engine X) (w : World X) (t : ℕ) → w.shared.phase ≡ Main → MayTurn e w t → t ≡ 0
+pub alone : {X : Type 0} (e : Engine X) (w : World X) (t : ℕ) → w.shared.phase ≡ Main → MayTurn e w t → t ≡ 0
 alone e w t on_its_way may =
     eqb-true t 0 (subst (λ phase. is_turnable phase t ≡ true) on_its_way (turnable e w t (slice_get w.threads t) may.enabled))
 
