@@ -1,0 +1,5 @@
+mod Askings
+mod Calls
+mod Leaves
+mod Lists
+mod Taken
