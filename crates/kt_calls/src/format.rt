@@ -83,11 +83,13 @@ pub(crate) fn format_of(
     let mut pieces = Vec::new(alloc);
     let mut standpoint = Standpoint::Between;
     for b in format {
-        let Some((piece, next)) = read(standpoint, *b) else {
-            return Ok(None);
-        };
-        pieces = with_piece(pieces, piece)?;
-        standpoint = next;
+        match read(standpoint, *b) {
+            None => return Ok(None),
+            Some((piece, next)) => {
+                pieces = with_piece(pieces, piece)?;
+                standpoint = next;
+            }
+        }
     }
     match standpoint {
         Standpoint::Between => Ok(Some(pieces)),

@@ -1,6 +1,6 @@
 //! Arguments as values.
 
-ghost use Rattle.std.specs.Prelude.{◌≡◌, IfOk};
+ghost use Rattle.std.specs.Prelude.{◌≡◌, map, IfOk};
 ghost use Rattle.kt_tree.specs.Tree.{expressions_of};
 ghost use Rattle.kt_typing.specs.Calls.{converted_all, plain_values};
 ghost use Rattle.kt_typing.specs.Operands.{types_of, trees_of};
@@ -22,9 +22,9 @@ pub(crate) struct Apart {
     pub trees: Items<Expr>,
 }
 
-/// Values, as their types and their trees.
-pub(crate) fn set_apart(alloc: Global, mut values: Vec<Value>) -> Result<Apart, AllocError>
-    ensures { IfOk result (λ a. (a.types.items ≡ types_of (values_of values)) × (expressions_of a.trees ≡ trees_of (values_of values))) }
+// Values, one by one, as their types and their trees.
+fn listed(alloc: Global, mut values: Vec<Value>) -> Result<Apart, AllocError>
+    ensures { IfOk result (λ a. (a.types.items ≡ map (λ v. v.ty) values.items) × (a.trees ≡ map (λ v. v.tree) values.items)) }
 {
     let mut types = Vec::new(alloc);
     let mut trees = Items::new(alloc);
@@ -34,6 +34,16 @@ pub(crate) fn set_apart(alloc: Global, mut values: Vec<Value>) -> Result<Apart, 
         trees.push(value.tree.into_inner())?;
     }
     Ok(Apart { types, trees })
+}
+
+/// Values, as their types and their trees.
+pub(crate) fn set_apart(alloc: Global, values: Vec<Value>) -> Result<Apart, AllocError>
+    ensures { IfOk result (λ a. (a.types.items ≡ types_of (values_of values)) × (expressions_of a.trees ≡ trees_of (values_of values))) }
+{
+    match listed(alloc, values) {
+        Ok(apart) => Ok(apart),
+        Err(e) => Err(e),
+    }
 }
 
 /// Arguments, each converted to the type of a parameter.
@@ -49,10 +59,10 @@ pub(crate) fn converted_all(
     arguments.reverse();
     for ty in parameters {
         match arguments.pop() {
-            Some(x) => {
-                let value = x.convert(env, at, *ty)?;
-                values.push(value)?;
-            }
+            Some(x) => match x.convert(env, at, *ty) {
+                Ok(value) => values.push(value)?,
+                Err(e) => return Err(e),
+            },
             None => return Err(bad_type(at)),
         }
     }

@@ -1,5 +1,5 @@
 use Rattle.std.proofs.Common.{◌≡◌, ◌++◌, map, length, reverse}
-use Rattle.kt_calls.proofs.values.set_apart.Given as goal
+use Rattle.kt_calls.proofs.values.listed.Given as goal
 
 abbrev pub decreases-loop-value : goal.decreases-loop-value
 decreases-loop-value l = length l.values.items
