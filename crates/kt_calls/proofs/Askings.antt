@@ -1,5 +1,5 @@
 -- Requests of arguments that have values, or not.
-use Rattle.std.proofs.Common.{◌≡◌, ℕ, true, false, List, [], ◌∷◌, Option, Some, None, Result, Ok, Err, refl, ap, subst, sym}
+use Rattle.std.proofs.Common.{◌≡◌, ℕ, Bool, true, false, if◌then◌else◌, List, [], ◌∷◌, Option, Some, None, Result, Ok, Err, refl, ap, subst, sym}
 use Rattle.kt_tree.specs.declared.expr.Request.{Request}
 use Rattle.kt_tree.specs.Kinds.{Head}
 use Rattle.kt_typing.specs.declared.fault.Fault.{Fault}
@@ -67,7 +67,7 @@ module _ {W : Type 0} (whole : W → Operand) (env : Environment) (at : ℕ) (q 
       by (x ∷ y ∷ []) e = absurd cc
       by (x ∷ y ∷ z ∷ xs) e = many _ _
         where
-          many : (b : _) (o : Option Value) → both_values o (elim b as (λ _. Option (List Value)) [ true ↦ None | false ↦ None ]) ≡ None
+          many : (b : Bool) (o : Option Value) → both_values o (if b then None else None) ≡ None
           many true o = both-none o
           many false o = both-none o
 

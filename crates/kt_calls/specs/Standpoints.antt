@@ -1,5 +1,5 @@
 -- Reading a format byte by byte.
-use Rattle.std.specs.Prelude.{ℕ, Bool, false, List, Option, Some, None}
+use Rattle.std.specs.Prelude.{ℕ, Bool, false, List, [], ◌∷◌, ◌++◌, Option, Some, None}
 use Rattle.kt_tree.specs.Kinds.{Scope}
 use Rattle.kt_typing.specs.declared.format.Conversion.{Conversion}
 use Rattle.kt_typing.specs.Formats.{Standpoint, Between, Percent, Long, before, format_from, are_taken}
@@ -24,3 +24,8 @@ read_so (Some p) rest = read_as p.0 p.1 rest
 abbrev pub are_taken_behind : Scope → List Conversion → Option (List ℕ) → Bool
 are_taken_behind s cs None = false
 are_taken_behind s cs (Some ts) = are_taken s cs ts
+
+-- pieces, and one more, where there is one
+abbrev pub with_piece : List Conversion → Option Conversion → List Conversion
+with_piece cs None = cs
+with_piece cs (Some c) = cs ++ c ∷ []

@@ -1,14 +1,12 @@
 //! The format of `printf` (ISO/IEC 9899:2011, 7.21.6.1): `%d`, `%ld`, `%c`, `%s` and `%%` alone.
 
-ghost use Rattle.std.specs.Prelude.{◌≡◌, ◌∷◌, [], List, ℕ, IfOk};
+ghost use Rattle.std.specs.Prelude.{◌≡◌, ◌++◌, ◌∷◌, [], List, ℕ, IfOk};
 ghost use Rattle.kt_typing.specs.declared.format.Conversion.{Conversion};
 ghost use Rattle.kt_typing.specs.Formats.{format_from, format_of, taken_by, is_taken, are_taken};
 ghost use Rattle.std.specs.Option.{option_map};
 ghost use Rattle.kt_calls.specs.declared.format.Standpoint.TheVariants as standpoint;
 ghost use Rattle.kt_operands.specs.Views.{scope_of};
-ghost use Rattle.kt_calls.specs.declared.format.Standpoint.{Standpoint};
-ghost use Rattle.kt_calls.specs.Arguments.{joined};
-ghost use Rattle.kt_calls.specs.Standpoints.{standpoint_of, read_as, read_so, are_taken_behind};
+ghost use Rattle.kt_calls.specs.Standpoints.{standpoint_of, read_so, with_piece, are_taken_behind};
 
 use kt_operands::environment::Environment;
 use kt_operands::types::{CHAR, LONG};
@@ -60,17 +58,25 @@ fn read(standpoint: Standpoint, b: u8) -> Option<(Option<Conversion>, Standpoint
     }
 }
 
+// The pieces, and one more.
+fn pushed(mut pieces: Vec<Conversion>, piece: Conversion) -> Result<Vec<Conversion>, AllocError>
+    ensures { IfOk result (λ ps. ps.items ≡ pieces.items ++ piece ∷ []) }
+{
+    pieces.push(piece)?;
+    Ok(pieces)
+}
+
 // The pieces, and one more, where there is one.
 fn with_piece(
-    mut pieces: Vec<Conversion>,
+    pieces: Vec<Conversion>,
     piece: Option<Conversion>,
 ) -> Result<Vec<Conversion>, AllocError>
-    ensures { IfOk result (λ ps. (s : Standpoint) → (rest : List ℕ) → joined ps.items (format_from (standpoint_of s) rest) ≡ joined pieces.items (read_as piece s rest)) }
+    ensures { IfOk result (λ ps. ps.items ≡ with_piece pieces.items piece) }
 {
-    if let Some(piece) = piece {
-        pieces.push(piece)?;
+    match piece {
+        Some(piece) => pushed(pieces, piece),
+        None => Ok(pieces),
     }
-    Ok(pieces)
 }
 
 /// The pieces of a format, where it has no other conversion.

@@ -1,13 +1,13 @@
 //! Names of points, and locals that an update keeps.
 
-ghost use Rattle.std.specs.Prelude.{◌≡◌, ℕ, Some, None};
+ghost use Rattle.std.specs.Prelude.{◌≡◌, Some, None};
 ghost use Rattle.std.specs.Option.{option_map};
 ghost use Rattle.kt_lex.specs.Bytes.{is_word_byte};
 ghost use Rattle.kt_tree.specs.Names.{is_point_name};
 ghost use Rattle.kt_tree.specs.Kinds.{int_type};
 ghost use Rattle.kt_tree.specs.declared.expr.Request.TheVariants as request;
 ghost use Rattle.kt_typing.specs.declared.standing.Standing.TheVariants as standing;
-ghost use Rattle.kt_tree.specs.Tree.{Expression};
+ghost use Rattle.kt_tree.specs.Tree.{Constant', LocalRead};
 ghost use Rattle.kt_typing.specs.Environment.{Stands};
 ghost use Rattle.kt_typing.specs.Faults.{fault_at};
 ghost use Rattle.kt_typing.specs.declared.fault.Kind.TheVariants as kind;
@@ -25,7 +25,7 @@ use kt_operands::operand::{Value, bad_type, valued};
 use kt_operands::refusal::Refusal;
 use kt_operands::tree;
 use kt_operands::types::INT;
-use kt_tree::Request;
+use kt_tree::{Constant, Request};
 use kt_typing::{Fault, Kind, Standing};
 use sqlite_items::Items;
 
@@ -81,7 +81,7 @@ fn not_kept(at: u32) -> Refusal
 
 // `MIGRATE_LOCAL` of the local of a number.
 fn kept_local(env: &Environment<'_>, at: u32, local: u32) -> Answer
-    ensures { (t : ℕ) (e : Expression) → Follows operand_of (kept (environment_of env.now) at (Stands (standing.Local local) t e)) result }
+    ensures { Follows operand_of (kept (environment_of env.now) at (Stands (standing.Local local) 0 (LocalRead local))) result }
 {
     let request = Request::MigrateLocal(local);
     if !env.takes_request(&request, Some(INT), &[]) {
@@ -93,8 +93,8 @@ fn kept_local(env: &Environment<'_>, at: u32, local: u32) -> Answer
 }
 
 // `MIGRATE_LOCAL` of what stands so.
-fn kept_place(env: &Environment<'_>, at: u32, what: Standing) -> Answer
-    ensures { (t : ℕ) (e : Expression) → Follows operand_of (kept (environment_of env.now) at (Stands what t e)) result }
+fn kept_place(env: &Environment<'_>, at: u32, what: Standing, ty: u32, value: Constant) -> Answer
+    ensures { Follows operand_of (kept (environment_of env.now) at (Stands what ty (Constant' value ty))) result }
 {
     match what {
         Standing::Local(local) => kept_local(env, at, local),
@@ -119,7 +119,7 @@ fn kept(env: &Environment<'_>, at: u32, meaning: Meaning) -> Answer
         Meaning::Local(local, _) => kept_local(env, at, local),
         Meaning::Missing => Err(not_kept(at)),
         Meaning::Barred => Err(not_kept(at)),
-        Meaning::Fixed(what, _, _) => kept_place(env, at, what),
+        Meaning::Fixed(what, ty, value) => kept_place(env, at, what, ty, value),
         Meaning::Routine(_) => Err(not_kept(at)),
     }
 }

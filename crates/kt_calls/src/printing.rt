@@ -88,7 +88,6 @@ fn parts_of(alloc: Global, pieces: &[Conversion]) -> Result<Items<Part>, AllocEr
 }
 
 // Values written by the pieces of a format.
-#[tactic(auto, using(crate::proofs::Askings::writings))]
 fn written(env: &Environment<'_>, at: u32, pieces: &[Conversion], values: Vec<Value>) -> Answer
     ensures { Follows operand_of (written (environment_of env.now) at pieces.now (Some (values_of values))) result }
 {
