@@ -40,4 +40,13 @@ module _ (s : Scope) (at : ℕ) (vs : List Value) (ps : List ℕ) (i : ℕ) (old
         by (Some w) k h = absurd cc
         by None k h =
             let none : whole ≡ None = sym stepped ∙ ap (λ o. joined vs (both_values o (converted_all s (drop (i + 1) ps) (map operand_of (reverse new))))) k ∙ joined-none vs _ in
-            ap (found at) none ∙ h
+            let same : bad_type at ≡ f = cc in
+            ap (found at) none ∙ ap Err same
+
+  -- a parameter without an argument
+  pub lacks : {W : Type 0} (list : W → List Value) → i < length ps → Left → old ≡ [] → Follows list (found at whole) (Err (refusal.Fault (bad_type at)))
+  lacks list within left none =
+      let is : whole ≡ None =
+          sym left ∙ at_drop_more (λ ts. joined vs (converted_all s ts (map operand_of (reverse old)))) ps i 0 within
+          ∙ ap (λ (xs : List OperandCode). joined vs (converted_all s (get_or ps i 0 ∷ drop (i + 1) ps) (map operand_of (reverse xs)))) none in
+      ap (found at) is
