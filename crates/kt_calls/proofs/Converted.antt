@@ -39,7 +39,7 @@ module _ (s : Scope) (at : ℕ) (vs : List Value) (ps : List ℕ) (i : ℕ) (old
         by : (o : Option Value) → convert s (get_or ps i 0) (operand_of x) ≡ o → found at o ≡ Err f → found at whole ≡ Err f
         by (Some w) k h = absurd cc
         by None k h =
-            let none : whole ≡ None = sym stepped ∙ ap (λ o. joined vs (both_values o (converted_all s (drop (i + 1) ps) (map operand_of (reverse new))))) k ∙ joined-none vs _ in
+            let none : whole ≡ None = sym stepped ∙ ap (λ o. joined vs (both_values o (converted_all s (drop (i + 1) ps) (map operand_of (reverse new))))) k ∙ joined-none vs (converted_all s (drop (i + 1) ps) (map operand_of (reverse new))) in
             let same : bad_type at ≡ f = cc in
             ap (found at) none ∙ ap Err same
 

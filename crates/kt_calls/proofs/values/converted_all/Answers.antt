@@ -1,9 +1,10 @@
-use Rattle.std.proofs.Common.{◌≡◌, ◌+◌, [], ◌∷◌, map, drop, reverse, sym, subst}
+use Rattle.std.proofs.Common.{◌≡◌, ◌+◌, [], ◌∷◌, map, drop, reverse, Err, sym, subst}
+use Rattle.kt_operands.specs.Judged.{Follows, found}
 use Rattle.std.proofs.lemmas.List.{map-append}
 use Rattle.kt_operands.specs.Views.{scope_of, operand_of, value_of}
 use Rattle.kt_typing.specs.Calls.{converted_all}
 use Rattle.kt_calls.specs.Arguments.{joined, operands_of, values_of}
-use Rattle.kt_calls.proofs.Converted.{goes-on, stops}
+use Rattle.kt_calls.proofs.Converted.{goes-on, stops, lacks}
 use Rattle.kt_calls.proofs.values.converted_all.Goals as goal
 
 pub returns-in-Err : goal.returns-in-Err
@@ -12,7 +13,11 @@ returns-in-Err c =
     c.loop-ty-test.true c.loop-ty.invariant c.pop.new.self.items c.in-Some.x c.in-Some.ensures.items value_of values_of c.in-Err.e c.in-Err.ensures
 
 pub returns-in-None : goal.returns-in-None
-returns-in-None c = ?
+returns-in-None c =
+    let whole = converted_all (scope_of c.args.env.now) c.args.parameters.now (operands_of c.args.arguments) in
+    subst (λ e. Follows values_of (found c.args.at whole) (Err e)) (sym c.bad_type.ensures)
+    (lacks (scope_of c.args.env.now) c.args.at (values_of c.loop-ty.values) c.args.parameters.now c.loop-ty.ty-index c.loop-ty.arguments.items whole
+    values_of c.loop-ty-test.true c.loop-ty.invariant c.in-None.ensures.items.0)
 
 pub loop-ty-preserved : goal.loop-ty-preserved
 loop-ty-preserved c =
