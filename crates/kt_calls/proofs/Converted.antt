@@ -1,5 +1,5 @@
 -- Arguments that are converted one by one.
-use Rattle.std.proofs.Common.{◌≡◌, ◌+◌, ◌<◌, ℕ, List, [], ◌∷◌, ◌++◌, map, length, drop, reverse, get_or, Option, Some, None, Result, Ok, Err, refl, sym, ap, ◌∙◌, subst}
+use Rattle.std.proofs.Common.{◌≡◌, ◌+◌, ◌<◌, ℕ, List, [], ◌∷◌, ◌++◌, map, length, drop, reverse, get_or, Option, Some, None, Result, Ok, Err, refl, sym, ap, ◌∙◌, subst, arith}
 use Rattle.std.proofs.lemmas.List.{at_drop_more, reverse-append}
 use Rattle.kt_tree.specs.Kinds.{Scope}
 use Rattle.kt_typing.specs.declared.fault.Fault.{Fault}
@@ -50,3 +50,7 @@ module _ (s : Scope) (at : ℕ) (vs : List Value) (ps : List ℕ) (i : ℕ) (old
           sym left ∙ at_drop_more (λ ts. joined vs (converted_all s ts (map operand_of (reverse old)))) ps i 0 within
           ∙ ap (λ (xs : List OperandCode). joined vs (converted_all s (get_or ps i 0 ∷ drop (i + 1) ps) (map operand_of (reverse xs)))) none in
       ap (found at) is
+
+pub is-nil : {A : Type 0} (xs : List A) → length xs ≡ 0 → xs ≡ []
+is-nil [] e = refl
+is-nil (x ∷ xs) e = absurd (omega arith)

@@ -4,7 +4,7 @@ use Rattle.std.proofs.lemmas.List.{map-append}
 use Rattle.kt_operands.specs.Views.{scope_of, operand_of, value_of}
 use Rattle.kt_typing.specs.Calls.{converted_all}
 use Rattle.kt_calls.specs.Arguments.{joined, operands_of, values_of}
-use Rattle.kt_calls.proofs.Converted.{goes-on, stops, lacks}
+use Rattle.kt_calls.proofs.Converted.{goes-on, stops, lacks, is-nil}
 use Rattle.kt_calls.proofs.values.converted_all.Goals as goal
 
 pub returns-in-Err : goal.returns-in-Err
@@ -17,7 +17,7 @@ returns-in-None c =
     let whole = converted_all (scope_of c.args.env.now) c.args.parameters.now (operands_of c.args.arguments) in
     subst (λ e. Follows values_of (found c.args.at whole) (Err e)) (sym c.bad_type.ensures)
     (lacks (scope_of c.args.env.now) c.args.at (values_of c.loop-ty.values) c.args.parameters.now c.loop-ty.ty-index c.loop-ty.arguments.items whole
-    values_of c.loop-ty-test.true c.loop-ty.invariant c.in-None.ensures.items.0)
+    values_of c.loop-ty-test.true c.loop-ty.invariant (is-nil c.loop-ty.arguments.items c.in-None.ensures.cases.0))
 
 pub loop-ty-preserved : goal.loop-ty-preserved
 loop-ty-preserved c =
