@@ -1,4 +1,4 @@
-use Rattle.std.proofs.Common.{◌≡◌, ◌+◌, [], ◌∷◌, map, drop, reverse, Err, sym, subst}
+use Rattle.std.proofs.Common.{◌≡◌, ◌+◌, arith, [], ◌∷◌, map, drop, reverse, Err, sym, subst}
 use Rattle.kt_operands.specs.Judged.{Follows, found}
 use Rattle.std.proofs.lemmas.List.{map-append}
 use Rattle.kt_operands.specs.Views.{scope_of, operand_of, value_of}
@@ -17,7 +17,7 @@ returns-in-None c =
     let whole = converted_all (scope_of c.args.env.now) c.args.parameters.now (operands_of c.args.arguments) in
     subst (λ e. Follows values_of (found c.args.at whole) (Err e)) (sym c.bad_type.ensures)
     (lacks (scope_of c.args.env.now) c.args.at (values_of c.loop-ty.values) c.args.parameters.now c.loop-ty.ty-index c.loop-ty.arguments.items whole
-    values_of c.loop-ty-test.true c.loop-ty.invariant (is-nil c.loop-ty.arguments.items c.in-None.ensures.cases.0))
+    values_of c.loop-ty-test.true c.loop-ty.invariant (is-nil c.loop-ty.arguments.items (grind (arith, c.in-None.ensures.cases.0))))
 
 pub loop-ty-preserved : goal.loop-ty-preserved
 loop-ty-preserved c =
