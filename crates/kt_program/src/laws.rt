@@ -1,0 +1,16 @@
+//! Laws of the definitions, each the contract of a function that does nothing.
+
+ghost use Rattle.std.specs.Prelude.{◌≡◌, ◌↔◌, Some, None};
+ghost use Rattle.kt_typing.specs.Faults.{IsFirst};
+ghost use Rattle.kt_typing.specs.declared.fault.Fault.{Fault};
+ghost use Rattle.kt_program.specs.Made.{Made};
+ghost use Rattle.kt_program.specs.Judgments.{Judgment, made, IsWrong, first_wrong};
+
+/// What is judged gives something where nothing is wrong, and else there is a first fault; never both. There is one first
+/// fault at most, and it is what is found part by part.
+pub fn judgment_law()
+    ensures right { (j : Judgment) (m : Made) (f : Fault) → made j ≡ Some m → IsWrong j f → ⊥ }
+    ensures wrong { (j : Judgment) → made j ≡ None → (f : Fault) × IsFirst (IsWrong j) f }
+    ensures one_first { (j : Judgment) (f g : Fault) → IsFirst (IsWrong j) f → IsFirst (IsWrong j) g → f ≡ g }
+    ensures found { (j : Judgment) (f : Fault) → (first_wrong j ≡ Some f) ↔ IsFirst (IsWrong j) f }
+{}
