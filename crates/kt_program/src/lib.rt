@@ -4,4 +4,4 @@
 
 mod laws;
 
-pub use laws::judgment_law;
+pub use laws::{judgment_law, statements_law};
