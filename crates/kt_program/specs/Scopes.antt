@@ -6,7 +6,7 @@ use Rattle.std.specs.Option.{is_some}
 use Rattle.kt_tree.specs.Tree.{LocalRead}
 use Rattle.kt_typing.specs.declared.standing.Standing.TheVariants as standing
 use Rattle.kt_typing.specs.Calls.{builtin_named}
-use Rattle.kt_typing.specs.Environment.{Environment, Meaning, Missing, Stands}
+use Rattle.kt_typing.specs.Environment.{Environment, Meaning, Missing, Barred, Stands, Routine}
 
 -- a name that is in scope, and the number of its local
 pub record Visible : Type 0 where
