@@ -6,3 +6,4 @@ pub mod Outside
 pub mod Rows
 pub mod Scopes
 pub mod Statements
+pub mod Structs
