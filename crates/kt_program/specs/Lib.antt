@@ -1,5 +1,6 @@
 pub mod Declarators
 pub mod Functions
+pub mod Globals
 pub mod Judgments
 pub mod Made
 pub mod Outside
