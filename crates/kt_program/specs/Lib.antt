@@ -1,4 +1,5 @@
 pub mod Declarators
+pub mod FileRows
 pub mod Files
 pub mod Functions
 pub mod Globals
