@@ -6,6 +6,7 @@ ghost use Rattle.kt_typing.specs.Faults.{IsFirst};
 ghost use Rattle.kt_typing.specs.declared.fault.Fault.{Fault};
 ghost use Rattle.kt_program.specs.Made.{Made};
 ghost use Rattle.kt_program.specs.Judgments.{Judgment, made, IsWrong, first_wrong};
+ghost use Rattle.kt_program.specs.FileRows.{IsRefusedFile, refused_files};
 ghost use Rattle.kt_program.specs.Rows.{body, noted_body, void_body, IsRefused, IsAccepted, refused, accepted, refused_noted, refused_void, accepted_void};
 
 /// What is judged gives something where nothing is wrong, and else there is a first fault; never both. There is one first
@@ -24,4 +25,9 @@ pub fn statements_law()
     ensures refused_noted { AllByRecursion (IsRefused noted_body) refused_noted }
     ensures refused_void { AllByRecursion (IsRefused void_body) refused_void }
     ensures accepted_void { AllByRecursion (IsAccepted void_body) accepted_void }
+{}
+
+/// Worked rows of whole files: `main`, names that stand twice, structs before their definitions.
+pub fn files_law()
+    ensures refused { AllByRecursion IsRefusedFile refused_files }
 {}

@@ -4,4 +4,4 @@
 
 mod laws;
 
-pub use laws::{judgment_law, statements_law};
+pub use laws::{files_law, judgment_law, statements_law};
