@@ -7,6 +7,7 @@ pub mod MainOnly
 pub mod Named
 pub mod Numbers
 pub mod Once
+pub mod ReadBack
 pub mod SoFar
 pub mod Spaced
 pub mod Splitting
