@@ -4,3 +4,4 @@ pub mod Counting
 pub mod HeapNumbers
 pub mod Endings
 pub mod Marking
+pub mod Numbering

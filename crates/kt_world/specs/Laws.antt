@@ -32,6 +32,10 @@ MainIsAlone job turns = (t : ℕ) → AreTurnsOf job (turns ++ t ∷ []) → (wo
 abbrev pub TurnsAreCounted : Job → List ℕ → Type 0
 TurnsAreCounted job turns = (world job turns).shared.turns ≡ length turns
 
+-- at most 64 threads are made beside `main`
+abbrev pub ThreadsAreFew : Job → List ℕ → Type 0
+ThreadsAreFew job turns = length (world job turns).threads ≤ 65
+
 -- a heap number is given out once: the next one never falls
 abbrev pub HeapNumbersNeverFall : Job → List ℕ → Type 0
 HeapNumbersNeverFall job turns =

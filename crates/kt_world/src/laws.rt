@@ -1,6 +1,6 @@
 //! Laws of worlds, each the contract of a function that does nothing.
 
-ghost use Rattle.kt_world.specs.Laws.{EndedAreGone, EndsAreLast, HeapNumbersNeverFall, MainIsAlone, MarksAreInOrder, OneMoreIsTheNext, OneMoreMayBeTaken, RefusalsChangeNothing, TurnsAreCounted};
+ghost use Rattle.kt_world.specs.Laws.{EndedAreGone, EndsAreLast, HeapNumbersNeverFall, MainIsAlone, MarksAreInOrder, OneMoreIsTheNext, OneMoreMayBeTaken, RefusalsChangeNothing, ThreadsAreFew, TurnsAreCounted};
 ghost use Rattle.kt_world.specs.Plain.{job_of};
 ghost use Rattle.kt_world.specs.Rows.{ChainRow, EndedRow, JoinRow, JoinTraps, RefusalRow, RequestRow, SignalRow, StuckRow, UpdateRow, WakeRow};
 
@@ -11,7 +11,7 @@ use crate::job::Job;
 /// to its point after an update, no other thread may take a turn. The turns are counted. The marks stand in the order of
 /// their turns: each request is answered by a closing before the next one is made, an accepted closing is followed by
 /// `main` at its point and then by all threads at theirs, and the end of a run is its last mark. A thread that has ended
-/// has no call, and the next heap number never falls.
+/// has no call, there are at most 65 threads, and the next heap number never falls.
 pub fn world_law(job: &Job, turns: &[u8])
     ensures may { OneMoreMayBeTaken (job_of job.now) turns.now }
     ensures next { OneMoreIsTheNext (job_of job.now) turns.now }
@@ -20,6 +20,7 @@ pub fn world_law(job: &Job, turns: &[u8])
     ensures marks { MarksAreInOrder (job_of job.now) turns.now }
     ensures last { EndsAreLast (job_of job.now) turns.now }
     ensures ended { EndedAreGone (job_of job.now) turns.now }
+    ensures threads { ThreadsAreFew (job_of job.now) turns.now }
     ensures heap_numbers { HeapNumbersNeverFall (job_of job.now) turns.now }
 {}
 

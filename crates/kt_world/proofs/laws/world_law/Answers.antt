@@ -4,6 +4,7 @@ use Rattle.kt_world.proofs.Following.{one-more-may, one-more-next, main-alone}
 use Rattle.kt_world.proofs.HeapNumbers.{heap-numbers-never-fall}
 use Rattle.kt_world.specs.Plain.{job_of}
 use Rattle.kt_world.proofs.Marking.{ends-are-last, marks-are-in-order}
+use Rattle.kt_world.proofs.Numbering.{threads-are-few}
 use Rattle.kt_world.proofs.laws.world_law.Goals as goal
 
 pub returns : goal.returns
@@ -18,5 +19,6 @@ returns c =
       marks = marks-are-in-order job turns;
       last = ends-are-last job turns;
       ended = ended-are-gone job turns;
+      threads = threads-are-few job turns;
       heap_numbers = heap-numbers-never-fall job turns;
     }
