@@ -5,3 +5,4 @@ pub mod HeapNumbers
 pub mod Endings
 pub mod Marking
 pub mod Numbering
+pub mod Choosing

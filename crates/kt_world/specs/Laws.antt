@@ -10,7 +10,7 @@ use Rattle.kt_world.specs.declared.mark.Mark.TheVariants as mark
 use Rattle.kt_world.specs.Job.{Job}
 use Rattle.kt_world.specs.Marks.{AreMarks}
 use Rattle.kt_world.specs.Trees.{AreTurnsOf, tree_engine, world}
-use Rattle.kt_world.specs.Turns.{MayTurn, turn}
+use Rattle.kt_world.specs.Turns.{AreChosen, IsComplete, MayTurn, first_world, turn}
 use Rattle.kt_world.specs.Update.{refused}
 use Rattle.kt_world.specs.World.{Engine, Thread, World, lives}
 
@@ -82,3 +82,11 @@ pub record StaysAtRefusal (job : Job) (c : Closed) (w : World tree.Thread) : Typ
 
 abbrev pub RefusalsChangeNothing : Type 0
 RefusalsChangeNothing = (job : Job) (c : Closed) (w : World tree.Thread) → StaysAtRefusal job c w
+
+-- a schedule makes at most one complete list of turns
+abbrev pub OneListIsComplete : Job → Type 0
+OneListIsComplete job =
+    (choice : List ℕ → World tree.Thread → ℕ) (turns others : List ℕ) (how which : End) →
+    AreChosen (tree_engine job) job choice [] (first_world (tree_engine job) job) turns →
+    AreChosen (tree_engine job) job choice [] (first_world (tree_engine job) job) others →
+    IsComplete (tree_engine job) job turns how → IsComplete (tree_engine job) job others which → turns ≡ others

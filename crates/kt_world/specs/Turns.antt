@@ -1,5 +1,5 @@
 -- Turns, and the world of a job and a list of turns.
-use Rattle.std.specs.Prelude.{◌≡◌, ℕ, suc, true, List, [], ◌∷◌, codes, Option, None, Some, unwrap_or}
+use Rattle.std.specs.Prelude.{◌≡◌, ℕ, suc, true, List, [], ◌∷◌, ◌++◌, codes, Option, None, Some, unwrap_or}
 use Rattle.kt_mem.specs.declared.thread.Mode.TheVariants.{Normal}
 use Rattle.kt_mem.specs.Memory.{Memory, no_objects}
 use Rattle.kt_tree.specs.Names.{place_of}
@@ -82,3 +82,10 @@ world_of e job turns = world_from e job (first_world e job) turns
 pub record IsComplete {X : Type 0} (e : Engine X) (job : Job) (turns : List ℕ) (how : End) : Type 0 where
   pub may_turn : MayTurnAll e job (first_world e job) turns
   pub ended : (world_of e job turns).shared.ended ≡ Some how
+
+-- ---- schedules
+
+-- the turns are those that a schedule chooses, by the turns that were made before and the world
+abbrev pub AreChosen : {X : Type 0} → Engine X → Job → (List ℕ → World X → ℕ) → List ℕ → World X → List ℕ → Type 0
+AreChosen e job choice made w [] = Unit {0}
+AreChosen e job choice made w (t ∷ turns) = (t ≡ choice made w) × AreChosen e job choice (made ++ t ∷ []) (turn e job w t) turns

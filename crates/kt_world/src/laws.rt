@@ -1,6 +1,6 @@
 //! Laws of worlds, each the contract of a function that does nothing.
 
-ghost use Rattle.kt_world.specs.Laws.{EndedAreGone, EndsAreLast, HeapNumbersNeverFall, MainIsAlone, MarksAreInOrder, OneMoreIsTheNext, OneMoreMayBeTaken, RefusalsChangeNothing, ThreadsAreFew, TurnsAreCounted};
+ghost use Rattle.kt_world.specs.Laws.{EndedAreGone, EndsAreLast, HeapNumbersNeverFall, MainIsAlone, MarksAreInOrder, OneListIsComplete, OneMoreIsTheNext, OneMoreMayBeTaken, RefusalsChangeNothing, ThreadsAreFew, TurnsAreCounted};
 ghost use Rattle.kt_world.specs.Plain.{job_of};
 ghost use Rattle.kt_world.specs.Rows.{ChainRow, EndedRow, JoinRow, JoinTraps, RefusalRow, RequestRow, SignalRow, StuckRow, UpdateRow, WakeRow};
 
@@ -22,6 +22,11 @@ pub fn world_law(job: &Job, turns: &[u8])
     ensures ended { EndedAreGone (job_of job.now) turns.now }
     ensures threads { ThreadsAreFew (job_of job.now) turns.now }
     ensures heap_numbers { HeapNumbersNeverFall (job_of job.now) turns.now }
+{}
+
+/// A schedule, which chooses each turn by the turns before it and the world, makes at most one complete list of turns.
+pub fn schedule_law(job: &Job)
+    ensures one { OneListIsComplete (job_of job.now) }
 {}
 
 /// A closing that is refused changes neither memory, nor kept values, nor the version in force.
