@@ -110,7 +110,7 @@ module _ {X : Type 0} (e : Engine X) (job : Job) where
 
   -- ---- turns
 
-  turn-counts : (w : World X) (t : ℕ) → (turn e job w t).shared.turns ≡ suc w.shared.turns
+  pub turn-counts : (w : World X) (t : ℕ) → (turn e job w t).shared.turns ≡ suc w.shared.turns
   turn-counts w t =
       after_act-same (counted (acted e (types_at job w.shared.version) w t))
       ∙ ap (λ (h : (ℕ × ℕ) × (Phase × List Mark)). suc h.0.0) (act-same e (types_at job w.shared.version) w t (slice_get w.threads t))
@@ -123,7 +123,7 @@ module _ {X : Type 0} (e : Engine X) (job : Job) where
       let one = turn-counts w t in
       omega (arith, rest, one)
 
-  first-counts : (first_world e job).shared.turns ≡ 0
+  pub first-counts : (first_world e job).shared.turns ≡ 0
   first-counts = before_turn-same (start e job)
 
 pub turns-counted : (job : Job) (turns : List ℕ) → TurnsAreCounted job turns

@@ -1,5 +1,5 @@
 -- Laws of worlds, as statements.
-use Rattle.std.specs.Prelude.{◌≡◌, ◌↔◌, ◌≤◌, ℕ, false, List, [], ◌∷◌, ◌++◌, length, Option, None, Some}
+use Rattle.std.specs.Prelude.{◌≡◌, ◌↔◌, ◌≤◌, ℕ, false, true, List, [], ◌∷◌, ◌++◌, length, Option, None, Some}
 use Rattle.std.specs.List.{AllByRecursion}
 use Rattle.kt_meaning.specs.Thread as tree
 use Rattle.kt_phase.specs.declared.counters.Phase.TheVariants.{Main}
@@ -12,6 +12,7 @@ use Rattle.kt_world.specs.Marks.{AreMarks}
 use Rattle.kt_world.specs.Trees.{AreTurnsOf, tree_engine, world}
 use Rattle.kt_world.specs.Turns.{AreChosen, IsComplete, MayTurn, first_world, turn}
 use Rattle.kt_world.specs.Update.{refused}
+use Rattle.kt_world.specs.Waiting.{any_enabled, is_enabled}
 use Rattle.kt_world.specs.World.{Engine, Thread, World, lives}
 
 -- one turn more may be taken exactly where the turns before may be and the thread may take one in their world
@@ -90,3 +91,19 @@ OneListIsComplete job =
     AreChosen (tree_engine job) job choice [] (first_world (tree_engine job) job) turns →
     AreChosen (tree_engine job) job choice [] (first_world (tree_engine job) job) others →
     IsComplete (tree_engine job) job turns how → IsComplete (tree_engine job) job others which → turns ≡ others
+
+-- a schedule chooses an enabled thread wherever there is one
+abbrev pub ChoosesEnabled : Job → (List ℕ → World tree.Thread → ℕ) → Type 0
+ChoosesEnabled job choice =
+    (made : List ℕ) (w : World tree.Thread) →
+    any_enabled (tree_engine job) w 0 w.threads ≡ true → is_enabled (tree_engine job) w (choice made w) ≡ true
+
+-- the complete list of turns that a schedule makes
+pub record MadeList (job : Job) (choice : List ℕ → World tree.Thread → ℕ) : Type 0 where
+  pub turns : List ℕ
+  pub how : End
+  pub chosen : AreChosen (tree_engine job) job choice [] (first_world (tree_engine job) job) turns
+  pub complete : IsComplete (tree_engine job) job turns how
+
+abbrev pub AListIsMade : Job → Type 0
+AListIsMade job = (choice : List ℕ → World tree.Thread → ℕ) → ChoosesEnabled job choice → MadeList job choice

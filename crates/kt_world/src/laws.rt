@@ -1,6 +1,6 @@
 //! Laws of worlds, each the contract of a function that does nothing.
 
-ghost use Rattle.kt_world.specs.Laws.{EndedAreGone, EndsAreLast, HeapNumbersNeverFall, MainIsAlone, MarksAreInOrder, OneListIsComplete, OneMoreIsTheNext, OneMoreMayBeTaken, RefusalsChangeNothing, ThreadsAreFew, TurnsAreCounted};
+ghost use Rattle.kt_world.specs.Laws.{AListIsMade, EndedAreGone, EndsAreLast, HeapNumbersNeverFall, MainIsAlone, MarksAreInOrder, OneListIsComplete, OneMoreIsTheNext, OneMoreMayBeTaken, RefusalsChangeNothing, ThreadsAreFew, TurnsAreCounted};
 ghost use Rattle.kt_world.specs.Plain.{job_of};
 ghost use Rattle.kt_world.specs.Rows.{ChainRow, EndedRow, JoinRow, JoinTraps, RefusalRow, RequestRow, SignalRow, StuckRow, UpdateRow, WakeRow};
 
@@ -24,8 +24,10 @@ pub fn world_law(job: &Job, turns: &[u8])
     ensures heap_numbers { HeapNumbersNeverFall (job_of job.now) turns.now }
 {}
 
-/// A schedule, which chooses each turn by the turns before it and the world, makes at most one complete list of turns.
+/// A schedule, which chooses each turn by the turns before it and the world, makes one complete list of turns where it
+/// chooses an enabled thread wherever there is one, and in any case no two.
 pub fn schedule_law(job: &Job)
+    ensures some { AListIsMade (job_of job.now) }
     ensures one { OneListIsComplete (job_of job.now) }
 {}
 
