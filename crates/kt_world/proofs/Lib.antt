@@ -6,3 +6,4 @@ pub mod Endings
 pub mod Marking
 pub mod Numbering
 pub mod Choosing
+pub mod Calming

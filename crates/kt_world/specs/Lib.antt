@@ -11,5 +11,6 @@ pub mod Scripts
 pub mod Rows
 pub mod Trees
 pub mod Marks
+pub mod Calm
 pub mod Laws
 pub mod Plain

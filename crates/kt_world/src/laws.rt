@@ -1,7 +1,9 @@
 //! Laws of worlds, each the contract of a function that does nothing.
 
+ghost use Rattle.kt_world.specs.Calm.{CalmTurnsAreOneStep};
 ghost use Rattle.kt_world.specs.Laws.{AListIsMade, EndedAreGone, EndsAreLast, HeapNumbersNeverFall, MainIsAlone, MarksAreInOrder, OneListIsComplete, OneMoreIsTheNext, OneMoreMayBeTaken, RefusalsChangeNothing, ThreadsAreFew, TurnsAreCounted};
 ghost use Rattle.kt_world.specs.Plain.{job_of};
+ghost use Rattle.kt_world.specs.Trees.{tree_engine};
 ghost use Rattle.kt_world.specs.Rows.{ChainRow, EndedRow, JoinRow, JoinTraps, RefusalRow, RequestRow, SignalRow, StuckRow, UpdateRow, WakeRow};
 
 use crate::job::Job;
@@ -29,6 +31,12 @@ pub fn world_law(job: &Job, turns: &[u8])
 pub fn schedule_law(job: &Job)
     ensures some { AListIsMade (job_of job.now) }
     ensures one { OneListIsComplete (job_of job.now) }
+{}
+
+/// So many calm turns of one thread are one step: turns whose acts are on memory, input and output alone and are answered, in phase
+/// `Run`, before the next request and the end of the budget, with the thread enabled behind the last of them.
+pub fn calm_law(job: &Job)
+    ensures { CalmTurnsAreOneStep (tree_engine (job_of job.now)) (job_of job.now) }
 {}
 
 /// A closing that is refused changes neither memory, nor kept values, nor the version in force.
