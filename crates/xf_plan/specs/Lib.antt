@@ -7,6 +7,7 @@ pub mod PreValues
 pub mod Extents
 pub mod Spots
 pub mod Reached
+pub mod KeepsTypes
 pub mod Images
 pub mod Rows
 pub mod Plain
