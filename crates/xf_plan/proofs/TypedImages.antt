@@ -1,8 +1,9 @@
 -- What an update makes of a typed memory is typed, where the plan keeps types: the images of heap objects and literals, the objects of
 -- fresh places, and the values that are kept.
-use Rattle.std.specs.Prelude.{◌≡◌, ℕ, zero, suc, ◌==◌, ◌&&◌, ◌||◌, Bool, true, false, List, [], ◌∷◌, ◌++◌, map, filter, flat_map, slice_get, Option, None, Some, Result, Ok, Err, refl, if◌then◌else◌}
+use Rattle.std.specs.Prelude.{◌≡◌, ◌⊎◌, ℕ, zero, suc, ◌+◌, ◌-◌, ◌*◌, ◌≤◌, nat_lt, sum, unwrap_or, length, IsSome, ◌==◌, ◌&&◌, ◌||◌, Bool, true, false, List, [], ◌∷◌, ◌++◌, map, filter, flat_map, slice_get, Option, None, Some, Result, Ok, Err, refl, if◌then◌else◌}
 use Rattle.std.specs.List.{AllByRecursion, list_any}
-use Rattle.std.proofs.Common.{ap, sym, subst, ◌∙◌, inl, inr}
+use Rattle.std.specs.Option.{option_map}
+use Rattle.std.proofs.Common.{arith, ltb-false, ap, sym, subst, ◌∙◌, inl, inr}
 use Rattle.std.proofs.lemmas.Option.{none-some, same_Some}
 use Rattle.kt_types.specs.declared.kinds.Ty.{Ty}
 use Rattle.kt_types.specs.declared.kinds.Ty.TheVariants as ty
@@ -15,11 +16,18 @@ use Rattle.kt_mem.specs.declared.steps.Trap.{Trap}
 use Rattle.kt_mem.specs.Memory.{Memory, Object, Cell, fresh_cell, fresh_object, zero_value}
 use Rattle.kt_mem.specs.Memory as memory
 use Rattle.xf_plan.specs.Correspondence.{corresponds, new_type}
-use Rattle.xf_plan.specs.Images.{FreshPlace, cell_at, fresh_number, if_lives, moved, new_value, to_fresh, to_global}
-use Rattle.xf_plan.specs.KeepsTypes.{AreSpotsOf, GivesOf, IsValueOf}
+use Rattle.kt_tree.specs.Kinds.{char_type}
+use Rattle.xf_plan.specs.Images.{FreshPlace, all_spots, below, cell_at, fresh_in, fresh_made, fresh_number, fresh_objects, fresh_places, heap_image, heap_numbers, if_lives, if_reached, image_of, is_too_big, kept_cells, kept_globals, value_at, moved, moved_object, new_value, size_at, sizes, to_fresh, to_global}
+use Rattle.xf_plan.specs.KeepsTypes.{AreKeptFor, AreSpotsOf, AreValuesOf, GivesOf, IsKeptFor, IsMemoryOf, IsOfChars, IsSmall, IsValueOf, KeepsGlobal, KeepsGlobals, KeepsObjects}
+use Rattle.xf_plan.specs.Sources.{Source, global_sources, width}
+use Rattle.kt_tree.specs.declared.global.GlobalDecl.{GlobalDecl}
+use Rattle.xf_plan.specs.Plan.{GlobalRule}
+use Rattle.xf_plan.specs.declared.place.Place.TheVariants.{GlobalCell}
+use Rattle.xf_plan.specs.Extents.{global_cells}
+use Rattle.xf_plan.specs.PreValues.{origin}
 use Rattle.xf_plan.specs.Plan.{Plan}
-use Rattle.xf_plan.specs.Reached.{heap_targets, if_live, is_among, pointed, reached, reached_within, target, targets, unless_faulty}
-use Rattle.xf_plan.specs.Spots.{Spot, Wanted, fault_at, heap_spots, is_start, new_global, pointed_fault, pointer_fault, points_to, root_spots, unless_met, value_fault}
+use Rattle.xf_plan.specs.Reached.{distinct, heap_targets, if_live, is_among, is_moved, pointed, reached, reached_within, target, targets, unless_faulty}
+use Rattle.xf_plan.specs.Spots.{Spot, Wanted, added_spots, global_spots, spots_of, fault_at, heap_spots, is_start, new_global, pointed_fault, pointer_fault, points_to, root_spots, unless_met, value_fault}
 use Rattle.xf_plan.specs.declared.place.Place.{Place}
 use Rattle.xf_plan.specs.declared.place.Root.{Root}
 use Rattle.xf_plan.specs.declared.place.Why.{Why}
@@ -29,6 +37,11 @@ use Rattle.xf_plan.specs.declared.value.PreValue.TheVariants.{Plain, OldPointer,
 use Rattle.xf_plan.proofs.Among.{among-cases, flat-given, or-cases}
 use Rattle.xf_plan.proofs.NewTypes.{has-new-type}
 use Rattle.kt_mem.specs.Values.{name_eq}
+use Rattle.std.proofs.lemmas.List.{length-map}
+use Rattle.kt_types.proofs.Cells.{length-repeated}
+use Rattle.kt_types.proofs.Parts.{cells-is}
+use Rattle.kt_types.specs.Layout.{cells, layout}
+use Rattle.kt_types.specs.Table.{Table}
 use Rattle.kt_mem.proofs.Names.{name_eq-true}
 
 -- ---- lists
@@ -63,6 +76,48 @@ any-false test (x ∷ xs) h = by (test x) refl h (any-false test xs)
         → (test x ≡ false) × AllByRecursion (λ y. test y ≡ false) xs
     by true is k rest = absurd cc
     by false is k rest = (is, rest k)
+
+all-each : {A : Type 0} (P Q : A → Type 0) → ((x : A) → P x → Q x) → (xs : List A) → AllByRecursion P xs → AllByRecursion Q xs
+all-each P Q each [] all = tt
+all-each P Q each (x ∷ xs) all = (each x all.0, all-each P Q each xs all.1)
+
+all-mapped : {A B : Type 0} (f : A → B) (P : B → Type 0) (xs : List A) → AllByRecursion P (map f xs) → AllByRecursion (λ x. P (f x)) xs
+all-mapped f P [] all = tt
+all-mapped f P (x ∷ xs) all = (all.0, all-mapped f P xs all.1)
+
+all-front : {A : Type 0} (P : A → Type 0) (xs ys : List A) → AllByRecursion P (xs ++ ys) → AllByRecursion P xs
+all-front P [] ys all = tt
+all-front P (x ∷ xs) ys all = (all.0, all-front P xs ys all.1)
+
+all-back : {A : Type 0} (P : A → Type 0) (xs ys : List A) → AllByRecursion P (xs ++ ys) → AllByRecursion P ys
+all-back P [] ys all = all
+all-back P (x ∷ xs) ys all = all-back P xs ys all.1
+
+-- ---- names
+
+among-all : (P : Name → Type 0) (names : List Name) (n : Name) → AllByRecursion P names → is_among names n ≡ true → P n
+among-all P [] n all h = absurd cc
+among-all P (q ∷ names) n all h =
+    elim (or-cases (name_eq n q) (is_among names n) h) [
+      | inl e ↦ subst P (sym (name_eq-true n q e)) all.0
+      | inr k ↦ among-all P names n all.1 k
+    ]
+
+-- what is among names is among them without repeats
+distinct-among : (names : List Name) (n : Name) → is_among names n ≡ true → is_among (distinct names) n ≡ true
+distinct-among [] n h = absurd cc
+distinct-among (q ∷ names) n h = by (is_among names q) refl (or-cases (name_eq n q) (is_among names n) h) (distinct-among names n)
+  where
+    by : (b : Bool) → is_among names q ≡ b → (name_eq n q ≡ true) ⊎ (is_among names n ≡ true) → (is_among names n ≡ true → is_among (distinct names) n ≡ true)
+        → is_among (if b then distinct names else q ∷ distinct names) n ≡ true
+    by true is (inl e) rest = rest (subst (λ x. is_among names x ≡ true) (sym (name_eq-true n q e)) is)
+    by true is (inr k) rest = rest k
+    by false is (inl e) rest = ap (λ b. b || is_among (distinct names) n) e
+    by false is (inr k) rest = ap (λ b. name_eq n q || b) (rest k) ∙ or-true (name_eq n q)
+      where
+        or-true : (b : Bool) → (b || true) ≡ true
+        or-true true = refl
+        or-true false = refl
 
 map-append : {A B : Type 0} (f : A → B) (xs ys : List A) → map f (xs ++ ys) ≡ map f xs ++ map f ys
 map-append f [] ys = refl
@@ -242,3 +297,227 @@ module _ (p : Plan) (m : Memory) where
 
   reached-moves : (roots : List Root) (a : ℕ) → is_among (reached p m roots) (Heap a) ≡ true → Moves a
   reached-moves roots a h = within-moves roots m.next a h
+
+-- ---- objects
+
+-- an object of a version with these types
+pub record IsObjectOf (types : Table) (n : Name) (o : Object) : Type 0 where
+  pub holds : AllByRecursion Holds o.cells
+  pub shaped : option_map (repeated o.count) (layout types o.ty) ≡ Some (map ty_of o.cells)
+  pub chars : IsOfChars n o
+  pub small : IsSmall n o
+
+some-of : {A : Type 0} (o : Option A) → IsSome o → (x : A) × (o ≡ Some x)
+some-of None h = absurd cc
+some-of (Some x) h = (x, refl)
+
+-- the cells of so many elements
+small-cells : (count : ℕ) (ts : List Ty) (cs : List Cell) → map ty_of cs ≡ repeated count ts → count * length ts ≤ 65536 → length cs ≤ 65536
+small-cells count ts cs same le =
+    let here : length cs ≡ count * length ts = sym (length-map cs ty_of) ∙ ap length same ∙ length-repeated count ts in
+    omega (arith, here, le)
+
+shaped-so : (types : Table) (a count : ℕ) (ts all : List Ty) → layout types a ≡ Some ts → all ≡ repeated count ts → option_map (repeated count) (layout types a) ≡ Some all
+shaped-so types a count ts all has same = ap (option_map (repeated count)) has ∙ ap Some (sym same)
+
+module _ (old : Table) (p : Plan) (m : Memory) (is : IsMemoryOf old m) where
+  -- the image of a heap object
+  image-of : KeepsObjects old p → (fresh : List FreshPlace) (a : ℕ) (o : Object) (b : ℕ) → m.at (Heap a) ≡ Some o → new_type p o.ty ≡ Some b → size_at p (Some o) ≤ 65536
+      → IsObjectOf p.new (Heap a) (heap_image p m fresh a o)
+  image-of keeps fresh a o b at type size =
+      let (ts, has, spots) = keeps m a b o is at type in
+      let to : unwrap_or (new_type p o.ty) 0 ≡ b = ap (λ x. unwrap_or x 0) type in
+      let same = spots-types p m fresh (repeated o.count ts) (heap_spots p m a) spots in
+      let own : layout p.new (unwrap_or (new_type p o.ty) 0) ≡ Some ts = ap (layout p.new) to ∙ has in
+      let wide : width p.new (unwrap_or (new_type p o.ty) 0) ≡ length ts = ap length (cells-is p.new (unwrap_or (new_type p o.ty) 0) ts own) in
+      record {
+        holds = spots-hold p m fresh (heap_spots p m a) (spots-give p m (repeated o.count ts) (heap_spots p m a) spots);
+        shaped = shaped-so p.new (unwrap_or (new_type p o.ty) 0) o.count ts (map ty_of (map (cell_at p m fresh) (heap_spots p m a))) own same;
+        chars = tt;
+        small = small-cells o.count ts (map (cell_at p m fresh) (heap_spots p m a)) same (subst (λ n. o.count * n ≤ 65536) wide size);
+      }
+
+  -- a literal that is reached
+  literal-of : new_type p char_type ≡ Some char_type → layout p.new char_type ≡ layout old char_type → (fresh : List FreshPlace) (v i : ℕ) (o : Object) → m.at (Lit v i) ≡ Some o
+      → IsObjectOf p.new (Lit v i) (image_of p m fresh (Lit v i) o)
+  literal-of keeps chars fresh v i o at =
+      let own : o.ty ≡ char_type = is.chars (Lit v i) o at in
+      let to : unwrap_or (new_type p o.ty) 0 ≡ char_type = ap (λ x. unwrap_or (new_type p x) 0) own ∙ ap (λ x. unwrap_or x 0) keeps in
+      record {
+        holds = cells-hold o.cells (λ k c there. is.typed (Lit v i) o k c at there);
+        shaped =
+            ap (λ x. option_map (repeated o.count) (layout p.new x)) to ∙ ap (option_map (repeated o.count)) chars
+            ∙ ap (λ x. option_map (repeated o.count) (layout old x)) (sym own) ∙ is.shaped (Lit v i) o at;
+        chars = to;
+        small = tt;
+      }
+    where
+      cells-hold : (cs : List Cell) → ((k : ℕ) (c : Cell) → slice_get cs k ≡ Some c → Holds c) → AllByRecursion Holds cs
+      cells-hold [] h = tt
+      cells-hold (c ∷ cs) h = (h 0 c refl, cells-hold cs (λ k d there. h (suc k) d there))
+
+  -- the object of a fresh place
+  fresh-object-of : (k : ℕ) (f : FreshPlace) (a : ℕ) → IsSome (layout p.new f.ty) → f.count * width p.new f.ty ≤ 65536 → IsObjectOf p.new (Heap a) (fresh_made p m k f)
+  fresh-object-of k f a complete size =
+      let (ts, has) = some-of (layout p.new f.ty) complete in
+      let own : cells p.new f.ty ≡ ts = cells-is p.new f.ty ts has in
+      let made = map (fresh_cell true) (cells p.new f.ty) in
+      let same : map ty_of (memory.repeated f.count made) ≡ repeated f.count ts = repeated-types f.count made ∙ ap (repeated f.count) (zeros-types (cells p.new f.ty) ∙ own) in
+      record {
+        holds = repeated-hold f.count made (zeros-hold (cells p.new f.ty));
+        shaped = shaped-so p.new f.ty f.count ts (map ty_of (memory.repeated f.count made)) has same;
+        chars = tt;
+        small = small-cells f.count ts (memory.repeated f.count made) same (subst (λ n. f.count * n ≤ 65536) (ap length own) size);
+      }
+
+  -- ---- all spots give what is of their types
+
+  global-spots-give : (i : ℕ) (globals : List GlobalDecl) (rules : List GlobalRule) → KeepsGlobals old p i globals rules → AllByRecursion (SpotGives p m) (global_spots p m i rules)
+  global-spots-give i [] [] h = tt
+  global-spots-give i [] (g ∷ rules) h = absurd h
+  global-spots-give i (d ∷ globals) [] h = absurd h
+  global-spots-give i (d ∷ globals) (g ∷ rules) h =
+      let rest = subst (λ n. AllByRecursion (SpotGives p m) (global_spots p m n rules)) (omega arith) (global-spots-give (i + 1) globals rules h.1) in
+      all-append (SpotGives p m) (spots_of p m (GlobalCell i) (origin g.source) (global_cells p.new g) (global_sources p g g.source)) (global_spots p m (suc i) rules)
+      (by (global_sources p g g.source) refl) rest
+    where
+      by : (o : Option (List Source)) → global_sources p g g.source ≡ o → AllByRecursion (SpotGives p m) (spots_of p m (GlobalCell i) (origin g.source) (global_cells p.new g) o)
+      by None at = tt
+      by (Some sources) at = spots-give p m (repeated d.count (cells p.new d.ty)) _ (h.0.spots m sources is at)
+
+  abbrev pub RootGives : Root → Type 0
+  RootGives r = GivesOf p r.ty r.value
+
+  added-spots-give : (roots : List Root) → AllByRecursion RootGives roots → AllByRecursion (SpotGives p m) (added_spots p m roots)
+  added-spots-give [] h = tt
+  added-spots-give (r ∷ roots) h = (h.0, added-spots-give roots h.1)
+
+  heap-spots-give : KeepsObjects old p → (a : ℕ) → Moves p m a → AllByRecursion (SpotGives p m) (heap_spots p m a)
+  heap-spots-give keeps a moves =
+      let o = moves.object in
+      let (ts, has, spots) = keeps m a moves.to o is moves.is moves.type in
+      spots-give p m (repeated o.count ts) (heap_spots p m a) spots
+
+  module _ (roots : List Root) (globals : List GlobalDecl) (keeps : KeepsObjects old p) (rules : KeepsGlobals old p 0 globals p.globals) (gives : AllByRecursion RootGives roots) where
+    abbrev names : List Name
+    names = reached p m roots
+
+    abbrev fresh : List FreshPlace
+    fresh = fresh_places p m roots
+
+    all-spots-give : AllByRecursion (SpotGives p m) (all_spots p m roots)
+    all-spots-give =
+        all-append (SpotGives p m) (root_spots p m roots) (flat_map (heap_spots p m) (heap_numbers m names))
+        (all-append (SpotGives p m) (global_spots p m 0 p.globals) (added_spots p m roots) (global-spots-give 0 globals p.globals rules) (added-spots-give roots gives))
+        (all-flat (Moves p m) (SpotGives p m) (heap_spots p m) (heap-spots-give keeps) (heap_numbers m names)
+        (all-passing (Moves p m) (λ a. is_among names (Heap a)) (reached-moves p m roots) (below m.next)))
+
+    abbrev IsCompletePlace : FreshPlace → Type 0
+    IsCompletePlace f = IsSome (layout p.new f.ty)
+
+    fresh-complete : AllByRecursion IsCompletePlace fresh
+    fresh-complete = all-flat (SpotGives p m) IsCompletePlace (λ s. fresh_in s.place s.pre) (λ s h. by s.ty s.place s.pre h) (all_spots p m roots) all-spots-give
+      where
+        by : (t : Ty) (place : Place) (r : Result PreValue Trap) → GivesOf p t r → AllByRecursion IsCompletePlace (fresh_in place r)
+        by t place (Ok (Plain v)) h = tt
+        by t place (Ok (OldPointer v)) h = tt
+        by t place (Ok (Fresh u n)) h = (h.2, tt)
+        by t place (Err cause) h = tt
+
+    -- ---- sizes
+
+    module _ (fits : is_too_big (sizes p m (distinct names) fresh) ≡ false) where
+      abbrev Low : ℕ → Type 0
+      Low n = n ≤ 65536
+
+      low : (n : ℕ) → nat_lt 65536 n ≡ false → Low n
+      low n h = let lt = ltb-false 65536 n h in omega (arith, lt)
+
+      either-false : (a b : Bool) → (a || b) ≡ false → (a ≡ false) × (b ≡ false)
+      either-false true b h = absurd cc
+      either-false false b h = (refl, h)
+
+      all-low : AllByRecursion Low (sizes p m (distinct names) fresh)
+      all-low =
+          all-each (λ n. nat_lt 65536 n ≡ false) Low low (sizes p m (distinct names) fresh)
+          (any-false (nat_lt 65536) (sizes p m (distinct names) fresh) (either-false (list_any (nat_lt 65536) (sizes p m (distinct names) fresh)) (nat_lt 4194304 (sum (sizes p m (distinct names) fresh))) fits).0)
+
+      images-low : AllByRecursion (λ n. Low (size_at p (m.at n))) (distinct names)
+      images-low = all-mapped (λ n. size_at p (m.at n)) Low (distinct names) (all-front Low (map (λ n. size_at p (m.at n)) (distinct names)) _ all-low)
+
+      fresh-low : AllByRecursion (λ f. Low (f.count * width p.new f.ty)) fresh
+      fresh-low = all-mapped (λ (f : FreshPlace). f.count * width p.new f.ty) Low fresh (all-back Low (map (λ n. size_at p (m.at n)) (distinct names)) _ all-low)
+
+      image-low : (a : ℕ) → is_among names (Heap a) ≡ true → Low (size_at p (m.at (Heap a)))
+      image-low a h = among-all (λ n. Low (size_at p (m.at n))) (distinct names) (Heap a) images-low (distinct-among names (Heap a) h)
+
+      -- ---- the objects of the new memory beside its globals and its own literals
+
+      fresh-list : (k : ℕ) (places : List FreshPlace) → AllByRecursion IsCompletePlace places → AllByRecursion (λ f. Low (f.count * width p.new f.ty)) places
+          → AllByRecursion (λ o. (a : ℕ) → IsObjectOf p.new (Heap a) o) (fresh_objects p m k places)
+      fresh-list k [] complete low = tt
+      fresh-list k (f ∷ places) complete low = (λ a. fresh-object-of k f a complete.0 low.0, fresh-list (suc k) places complete.1 low.1)
+
+      if-reached-of : new_type p char_type ≡ Some char_type → layout p.new char_type ≡ layout old char_type → (n : Name) (b : Bool) → is_among names n ≡ b → is_moved n ≡ true
+          → (o q : Object) → m.at n ≡ Some o → (if b then Some (image_of p m fresh n o) else None) ≡ Some q → IsObjectOf p.new n q
+      if-reached-of char chars n false none moves o q at is-it = absurd cc
+      if-reached-of char chars (Glob g) true among moves o q at is-it = absurd cc
+      if-reached-of char chars (Lit v i) true among moves o q at is-it =
+          subst (IsObjectOf p.new (Lit v i)) (same_Some (image_of p m fresh (Lit v i) o) q is-it) (literal-of char chars fresh v i o at)
+      if-reached-of char chars (Heap a) true among moves o q at is-it =
+          let its = reached-moves p m roots a among in
+          let same : its.object ≡ o = same_Some its.object o (sym its.is ∙ at) in
+          let size = subst (λ x. Low (size_at p x)) at (image-low a among) in
+          subst (IsObjectOf p.new (Heap a)) (same_Some (heap_image p m fresh a o) q is-it)
+          (image-of keeps fresh a o its.to at (subst (λ (x : Object). new_type p x.ty ≡ Some its.to) same its.type) size)
+
+      pub moved-object-of : new_type p char_type ≡ Some char_type → layout p.new char_type ≡ layout old char_type → (n : Name) (q : Object) → is_moved n ≡ true
+          → moved_object p m names fresh n ≡ Some q → IsObjectOf p.new n q
+      moved-object-of char chars (Glob g) q moves at = absurd cc
+      moved-object-of char chars (Lit v i) q moves at = by-old (m.at (Lit v i)) refl at
+        where
+          by-old : (o : Option Object) → m.at (Lit v i) ≡ o → if_reached p m names fresh (Lit v i) o ≡ Some q → IsObjectOf p.new (Lit v i) q
+          by-old None there is-it = absurd (no-object (is_among names (Lit v i)) is-it)
+            where
+              no-object : (b : Bool) → (if b then None else None) ≡ Some q → ⊥
+              no-object true h = none-some q h
+              no-object false h = none-some q h
+          by-old (Some o) there is-it = if-reached-of char chars (Lit v i) (is_among names (Lit v i)) refl refl o q there is-it
+      moved-object-of char chars (Heap a) q moves at = by-number (nat_lt a m.next) at
+        where
+          by-old : (o : Option Object) → m.at (Heap a) ≡ o → if_reached p m names fresh (Heap a) o ≡ Some q → IsObjectOf p.new (Heap a) q
+          by-old None there is-it = absurd (no-object (is_among names (Heap a)) is-it)
+            where
+              no-object : (b : Bool) → (if b then None else None) ≡ Some q → ⊥
+              no-object true h = none-some q h
+              no-object false h = none-some q h
+          by-old (Some o) there is-it = if-reached-of char chars (Heap a) (is_among names (Heap a)) refl refl o q there is-it
+
+          by-number : (b : Bool) → (if b then if_reached p m names fresh (Heap a) (m.at (Heap a)) else slice_get (fresh_objects p m 0 fresh) (a - m.next)) ≡ Some q → IsObjectOf p.new (Heap a) q
+          by-number true is-it = by-old (m.at (Heap a)) refl is-it
+          by-number false is-it =
+              all-get (λ o. (b : ℕ) → IsObjectOf p.new (Heap b) o) (fresh_objects p m 0 fresh) (a - m.next) q (fresh-list 0 fresh fresh-complete fresh-low) is-it a
+
+  -- ---- kept values
+
+  spots-values : (fresh : List FreshPlace) (ts : List Ty) (spots : List Spot) → AreSpotsOf p ts spots → AreValuesOf ts (map (value_at p m fresh) spots)
+  spots-values fresh [] [] h = tt
+  spots-values fresh [] (s ∷ spots) h = absurd h
+  spots-values fresh (t ∷ ts) [] h = absurd h
+  spots-values fresh (t ∷ ts) (s ∷ spots) h = (new_value-of p m fresh s.place t s.pre h.1, spots-values fresh ts spots h.2)
+
+  kept-cells-of : (fresh : List FreshPlace) (i : ℕ) (d : GlobalDecl) (g : GlobalRule) → KeepsGlobal old p i d g → IsKeptFor p.new d (kept_cells p m fresh i g)
+  kept-cells-of fresh i d g keeps = by (global_sources p g g.source) refl
+    where
+      by : (o : Option (List Source)) → global_sources p g g.source ≡ o
+          → IsKeptFor p.new d (option_map (λ sources. map (value_at p m fresh) (spots_of p m (GlobalCell i) (origin g.source) (global_cells p.new g) (Some sources))) o)
+      by None at = tt
+      by (Some sources) at = spots-values fresh (repeated d.count (cells p.new d.ty)) _ (keeps.spots m sources is at)
+
+  pub kept-globals-of : (fresh : List FreshPlace) (i : ℕ) (globals : List GlobalDecl) (rules : List GlobalRule) → KeepsGlobals old p i globals rules
+      → AreKeptFor p.new globals (kept_globals p m fresh i rules)
+  kept-globals-of fresh i [] [] h = tt
+  kept-globals-of fresh i [] (g ∷ rules) h = absurd h
+  kept-globals-of fresh i (d ∷ globals) [] h = absurd h
+  kept-globals-of fresh i (d ∷ globals) (g ∷ rules) h =
+      (kept-cells-of fresh i d g h.0, subst (λ n. AreKeptFor p.new globals (kept_globals p m fresh n rules)) (omega arith) (kept-globals-of fresh (i + 1) globals rules h.1))

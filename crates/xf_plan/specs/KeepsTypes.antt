@@ -50,11 +50,30 @@ pub record IsMemoryOf (types : Table) (m : Memory) : Type 0 where
   pub chars : (n : Name) (o : Object) → m.at n ≡ Some o → IsOfChars n o
   pub small : (n : Name) (o : Object) → m.at n ≡ Some o → IsSmall n o
 
--- ---- typed pre-values
+-- ---- values
 
 -- a value of a type, or the undefined one
 abbrev pub IsValueOf : Ty → Value → Type 0
 IsValueOf t v = (v ≡ Undef) ⊎ IsTrue (is_of t v)
+
+-- values of these types, one after another
+abbrev pub AreValuesOf : List Ty → List Value → Type 0
+AreValuesOf [] [] = Unit {0}
+AreValuesOf (t ∷ types) (v ∷ values) = IsValueOf t v × AreValuesOf types values
+AreValuesOf types values = ⊥
+
+-- where values are kept for a global, they are those of its cells
+abbrev pub IsKeptFor : Table → GlobalDecl → Option (List Value) → Type 0
+IsKeptFor types d None = Unit {0}
+IsKeptFor types d (Some values) = AreValuesOf (repeated d.count (cells types d.ty)) values
+
+-- what is kept for globals, by number; nothing may be kept for the last ones
+abbrev pub AreKeptFor : Table → List GlobalDecl → List (Option (List Value)) → Type 0
+AreKeptFor types globals [] = Unit {0}
+AreKeptFor types [] (k ∷ kept) = ⊥
+AreKeptFor types (d ∷ globals) (k ∷ kept) = IsKeptFor types d k × AreKeptFor types globals kept
+
+-- ---- typed pre-values
 
 -- a pre-value of a new cell of this type: an old pointer and a new object are for pointers alone
 abbrev pub IsPreOf : Plan → Ty → PreValue → Type 0
