@@ -7,3 +7,4 @@ pub mod Marking
 pub mod Numbering
 pub mod Choosing
 pub mod Calming
+pub mod Formed

@@ -12,5 +12,6 @@ pub mod Rows
 pub mod Trees
 pub mod Marks
 pub mod Calm
+pub mod Typed
 pub mod Laws
 pub mod Plain

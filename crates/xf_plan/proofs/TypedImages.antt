@@ -157,10 +157,6 @@ zeros-hold : (ts : List Ty) → AllByRecursion Holds (map (fresh_cell true) ts)
 zeros-hold [] = tt
 zeros-hold (t ∷ ts) = (zero-holds t, zeros-hold ts)
 
-zeros-types : (ts : List Ty) → map ty_of (map (fresh_cell true) ts) ≡ ts
-zeros-types [] = refl
-zeros-types (t ∷ ts) = ap (λ rest. t ∷ rest) (zeros-types ts)
-
 -- ---- values
 
 module _ (p : Plan) (m : Memory) where
@@ -320,6 +316,21 @@ small-cells count ts cs same le =
 shaped-so : (types : Table) (a count : ℕ) (ts all : List Ty) → layout types a ≡ Some ts → all ≡ repeated count ts → option_map (repeated count) (layout types a) ≡ Some all
 shaped-so types a count ts all has same = ap (option_map (repeated count)) has ∙ ap Some (sym same)
 
+fresh-types : (zeros : Bool) (ts : List Ty) → map ty_of (map (fresh_cell zeros) ts) ≡ ts
+fresh-types zeros [] = refl
+fresh-types zeros (t ∷ ts) = ap (λ rest. t ∷ rest) (fresh-types zeros ts)
+
+-- the form of a new object
+pub fresh-formed : (types : Table) (number a count : ℕ) (zeros : Bool) (ts : List Ty) → layout types a ≡ Some ts → count * length (cells types a) ≤ 65536
+    → (option_map (repeated count) (layout types a) ≡ Some (map ty_of (fresh_object number a (cells types a) count zeros).cells))
+    × (length (fresh_object number a (cells types a) count zeros).cells ≤ 65536)
+fresh-formed types number a count zeros ts has size =
+    let own : cells types a ≡ ts = cells-is types a ts has in
+    let made = map (fresh_cell zeros) (cells types a) in
+    let same : map ty_of (memory.repeated count made) ≡ repeated count ts = repeated-types count made ∙ ap (repeated count) (fresh-types zeros (cells types a) ∙ own) in
+    (shaped-so types a count ts (map ty_of (memory.repeated count made)) has same,
+     small-cells count ts (memory.repeated count made) same (subst (λ n. count * n ≤ 65536) (ap length own) size))
+
 module _ (old : Table) (p : Plan) (m : Memory) (is : IsMemoryOf old m) where
   -- the image of a heap object
   image-of : KeepsObjects old p → (fresh : List FreshPlace) (a : ℕ) (o : Object) (b : ℕ) → m.at (Heap a) ≡ Some o → new_type p o.ty ≡ Some b → size_at p (Some o) ≤ 65536
@@ -360,15 +371,8 @@ module _ (old : Table) (p : Plan) (m : Memory) (is : IsMemoryOf old m) where
   fresh-object-of : (k : ℕ) (f : FreshPlace) (a : ℕ) → IsSome (layout p.new f.ty) → f.count * width p.new f.ty ≤ 65536 → IsObjectOf p.new (Heap a) (fresh_made p m k f)
   fresh-object-of k f a complete size =
       let (ts, has) = some-of (layout p.new f.ty) complete in
-      let own : cells p.new f.ty ≡ ts = cells-is p.new f.ty ts has in
-      let made = map (fresh_cell true) (cells p.new f.ty) in
-      let same : map ty_of (memory.repeated f.count made) ≡ repeated f.count ts = repeated-types f.count made ∙ ap (repeated f.count) (zeros-types (cells p.new f.ty) ∙ own) in
-      record {
-        holds = repeated-hold f.count made (zeros-hold (cells p.new f.ty));
-        shaped = shaped-so p.new f.ty f.count ts (map ty_of (memory.repeated f.count made)) has same;
-        chars = tt;
-        small = small-cells f.count ts (memory.repeated f.count made) same (subst (λ n. f.count * n ≤ 65536) (ap length own) size);
-      }
+      let formed = fresh-formed p.new (m.next + k) f.ty f.count true ts has size in
+      record { holds = repeated-hold f.count (map (fresh_cell true) (cells p.new f.ty)) (zeros-hold (cells p.new f.ty)); shaped = formed.0; chars = tt; small = formed.1 }
 
   -- ---- all spots give what is of their types
 
