@@ -51,7 +51,7 @@ same-small (Glob g) o q same h = subst (λ k. k ≤ 65536) (sym (same-length o q
 same-small (Heap a) o q same h = subst (λ k. k ≤ 65536) (sym (same-length o q same)) h
 
 module _ (types : Table) where
-  same-form : (n : Name) (o q : Object) → SameShape o q → IsFormedAs types n o → IsFormedAs types n q
+  pub same-form : (n : Name) (o q : Object) → SameShape o q → IsFormedAs types n o → IsFormedAs types n q
   same-form n o q same h = record {
     shaped =
         ap (λ k. option_map (repeated k) (layout types q.ty)) same.count ∙ ap (λ a. option_map (repeated o.count) (layout types a)) same.ty ∙ h.shaped

@@ -8,3 +8,4 @@ pub mod Numbering
 pub mod Choosing
 pub mod Calming
 pub mod Formed
+pub mod TypedShared
