@@ -9,3 +9,4 @@ pub mod Choosing
 pub mod Calming
 pub mod Formed
 pub mod TypedShared
+pub mod GoodThreads
