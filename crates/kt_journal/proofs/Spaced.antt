@@ -27,3 +27,14 @@ fault_line old close request refused why where_it_is cause new word_k word_n pla
     ∙ ap (λ l. l ++ 10 ∷ []) (append_assoc old (codes "close") (spaced (word_k ∷ (codes "refused" ∷ (word_n ∷ (place ++ causes))))))
     ∙ append_assoc old (codes "close" ++ spaced (word_k ∷ (codes "refused" ∷ (word_n ∷ (place ++ causes))))) (10 ∷ [])
     ∙ ap (λ l. old ++ l) (sym (line-spaced (codes "close") (word_k ∷ (codes "refused" ∷ (word_n ∷ (place ++ causes))))))
+
+-- the line of turns was appended part by part
+pub turn_line : (old begun told apart counted new thread count : List ℕ) → begun ≡ old ++ codes "turn " → told ≡ begun ++ thread
+    → apart ≡ told ++ 32 ∷ [] → counted ≡ apart ++ count → new ≡ counted ++ 10 ∷ [] → new ≡ old ++ line_of (codes "turn" ∷ (thread ∷ (count ∷ [])))
+unfolding line_of
+turn_line old begun told apart counted new thread count first second third fourth last =
+    last ∙ ap (λ l. l ++ 10 ∷ []) (fourth ∙ ap (λ l. l ++ count) (third ∙ ap (λ l. l ++ 32 ∷ []) (second ∙ ap (λ l. l ++ thread) first)))
+    ∙ regrouped old thread count
+  where
+    regrouped : (a b c : List ℕ) → ((((a ++ codes "turn ") ++ b) ++ 32 ∷ []) ++ c) ++ 10 ∷ [] ≡ a ++ ((codes "turn" ++ 32 ∷ (b ++ 32 ∷ c)) ++ 10 ∷ [])
+    regrouped a b c = simp append_assoc

@@ -10,3 +10,6 @@ pub mod Calming
 pub mod Formed
 pub mod TypedShared
 pub mod GoodThreads
+pub mod Places
+pub mod Taking
+pub mod Telling

@@ -9,6 +9,7 @@ pub mod Events
 pub mod Turns
 pub mod Scripts
 pub mod Rows
+pub mod Told
 pub mod Trees
 pub mod Marks
 pub mod Calm
