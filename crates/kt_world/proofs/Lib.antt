@@ -10,6 +10,7 @@ pub mod Calming
 pub mod Formed
 pub mod TypedShared
 pub mod GoodThreads
+pub mod TypedActs
 pub mod Places
 pub mod Taking
 pub mod Telling

@@ -1,11 +1,7 @@
 //! Laws of worlds, each the contract of a function that does nothing.
 
-<<<<<<< HEAD
 ghost use Rattle.kt_world.specs.Calm.{CalmTurnsAreOneStep};
-ghost use Rattle.kt_world.specs.Laws.{AListIsMade, EndedAreGone, EndsAreLast, HeapNumbersNeverFall, MainIsAlone, MarksAreInOrder, OneListIsComplete, OneMoreIsTheNext, OneMoreMayBeTaken, RefusalsChangeNothing, ThreadsAreFew, TurnsAreCounted};
-=======
 ghost use Rattle.kt_world.specs.Laws.{AListIsMade, BudgetIsKept, EndedAreGone, EndsAreLast, HeapNumbersNeverFall, MainIsAlone, MarksAreInOrder, MarksTellOfJobs, OneListIsComplete, OneMoreIsTheNext, OneMoreMayBeTaken, RefusalsChangeNothing, ThreadsAreFew, TurnsAreCounted, TurnsAreOfThreads};
->>>>>>> a2b68e5409fa2886b232ea08d0be6ccd21ad5a38
 ghost use Rattle.kt_world.specs.Plain.{job_of};
 ghost use Rattle.kt_world.specs.Trees.{tree_engine};
 ghost use Rattle.kt_world.specs.Rows.{ChainRow, EndedRow, JoinRow, JoinTraps, RefusalRow, RequestRow, SignalRow, StuckRow, UpdateRow, WakeRow};
