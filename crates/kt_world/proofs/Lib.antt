@@ -11,6 +11,7 @@ pub mod Formed
 pub mod TypedShared
 pub mod GoodThreads
 pub mod TypedActs
+pub mod NewMemories
 pub mod Places
 pub mod Taking
 pub mod Telling
