@@ -12,6 +12,7 @@ pub mod TypedShared
 pub mod GoodThreads
 pub mod TypedActs
 pub mod NewMemories
+pub mod TypedRoots
 pub mod Places
 pub mod Taking
 pub mod Telling

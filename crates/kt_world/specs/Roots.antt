@@ -31,13 +31,14 @@ new_function j f = option_and_then (λ (g : Function). place_of g.name (function
 abbrev pub function_at : Program → ℕ → Option Function
 function_at p f = slice_get p.functions f
 
+-- where there is no result and one parameter
+abbrev pub if_entry : Option ℕ → Bool → Option FieldDecl → Option FieldDecl
+if_entry None true d = d
+if_entry r b d = None
+
 -- the parameter of a `void` function of one parameter
 abbrev pub only_parameter : Function → Option FieldDecl
 only_parameter f = if_entry f.result (f.params == 1) (slice_get f.locals 0)
-  where
-    if_entry : Option ℕ → Bool → Option FieldDecl → Option FieldDecl
-    if_entry None true d = d
-    if_entry r b d = None
 
 -- the parameter of a thread's entry function, in the new version and in the old one
 abbrev pub new_parameter : Passage → ℕ → Option FieldDecl
@@ -68,15 +69,16 @@ arguments_of j t (th ∷ rest) = argument_of j t th ++ arguments_of j (suc t) re
 
 -- ---- noted locals
 
+-- the call, where there is no older one and it is of the function
+abbrev pub or_this : Option Call → Bool → Call → Option Call
+or_this (Some d) b c = Some d
+or_this None true c = Some c
+or_this None false c = None
+
 -- the oldest call of a function
 abbrev pub oldest : ℕ → List Call → Option Call
 oldest f [] = None
 oldest f (c ∷ older) = or_this (oldest f older) (c.function == f) c
-  where
-    or_this : Option Call → Bool → Call → Option Call
-    or_this (Some d) b c = Some d
-    or_this None true c = Some c
-    or_this None false c = None
 
 -- what a local of the oldest call of a function holds
 abbrev pub old_local : List Call → LocalSource → Option Value
