@@ -13,6 +13,7 @@ pub mod GoodThreads
 pub mod TypedActs
 pub mod NewMemories
 pub mod TypedRoots
+pub mod NewThreads
 pub mod Places
 pub mod Taking
 pub mod Telling

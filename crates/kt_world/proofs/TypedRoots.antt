@@ -146,7 +146,7 @@ module _ (j : Passage) (keeps : KeepsTypes j.old j.new j.plan) (m : Memory) (mem
   locals-by-fit t calls all (r ∷ rules) are =
       all-append RootFits (if_root (local_root j m t calls r)) (locals_by j m t calls rules) (local-root-fits t calls all r are.0) (locals-by-fit t calls all rules are.1)
 
-  locals-of-fit : (e : job.Job) (t : ℕ) (threads : List (Thread tree.Thread)) → AllFrom (IsGood v o j.old) t threads → AllByRecursion RootFits (locals_of (tree_engine e) j m t threads)
+  pub locals-of-fit : (e : job.Job) (t : ℕ) (threads : List (Thread tree.Thread)) → AllFrom (IsGood v o j.old) t threads → AllByRecursion RootFits (locals_of (tree_engine e) j m t threads)
   locals-of-fit e t [] h = tt
   locals-of-fit e t (th ∷ threads) h =
       all-append RootFits (locals_by j m t (map call_of th.state.frames) j.plan.locals) (locals_of (tree_engine e) j m (suc t) threads)
@@ -226,3 +226,17 @@ module _ (j : Passage) (keeps : KeepsTypes j.old j.new j.plan) (m : Memory) (mem
       by : (arguments : List Value) → AreIn j.old.types (may.old.ty ∷ []) arguments → argument_root j t th.entry arguments ≡ Some r → IsArgument t th r
       by [] a k = absurd a
       by (x ∷ more) a k = by-type x a.0 (slice_get j.plan.new.types may.new.ty) refl (ap (option_and_then (argument_as j t x)) (sym may.new_is) ∙ k)
+
+  -- there is such a root
+  pub root-exists : (t : ℕ) (th : Thread tree.Thread) (may : MayEnter th) → AreArguments j.old th.entry th.arguments → (u : Ty) → slice_get j.new.types.types may.new.ty ≡ Some u
+      → (r : Root) × (argument_root j t th.entry th.arguments ≡ Some r)
+  root-exists t th may are u at = by th.arguments (old-argument-in th may.old may.old_is are)
+    where
+      own : slice_get j.plan.new.types may.new.ty ≡ Some u
+      own = ap (λ (x : Table). slice_get x.types may.new.ty) keeps.types ∙ at
+
+      by : (arguments : List Value) → AreIn j.old.types (may.old.ty ∷ []) arguments → (r : Root) × (argument_root j t th.entry arguments ≡ Some r)
+      by [] a = absurd a
+      by (x ∷ more) a =
+          (root (Argument t) u (Ok (pre_argument u x)) may.new,
+           ap (option_and_then (argument_as j t x)) may.new_is ∙ ap (option_map (λ u. root (Argument t) u (Ok (pre_argument u x)) may.new)) own)
