@@ -1,6 +1,6 @@
 -- Acts on memory keep the form of its objects: each has the cells of its element type as often as its count says, literals are of
 -- `char`, and each global has its object.
-use Rattle.std.specs.Prelude.{◌≡◌, ℕ, zero, suc, pos, negsuc, ◌+◌, ◌*◌, ◌≤◌, nat_lt, ◌||◌, Bool, true, false, List, [], ◌∷◌, length, map, slice_get, Option, None, Some, Result, Ok, Err, refl, if◌then◌else◌}
+use Rattle.std.specs.Prelude.{◌≡◌, ℕ, pos, ◌+◌, ◌*◌, ◌≤◌, nat_lt, ◌||◌, Bool, true, false, List, length, map, slice_get, Option, None, Some, Result, Ok, refl, if◌then◌else◌}
 use Rattle.std.specs.Option.{option_map}
 use Rattle.std.proofs.Common.{inl, inr, arith, ltb-false, ap, sym, subst, ◌∙◌}
 use Rattle.std.proofs.lemmas.List.{length-map}
@@ -15,7 +15,7 @@ use Rattle.kt_mem.specs.declared.memory.Value.TheVariants.{Num, Null, Ptr, Free,
 use Rattle.kt_mem.specs.declared.steps.Trap.{Trap}
 use Rattle.kt_mem.specs.declared.steps.Trap.TheVariants as trap
 use Rattle.kt_mem.specs.Laws.{SameShape}
-use Rattle.kt_mem.specs.Memory.{Cell, Memory, Object, alloc, alloc_fault, and_then, fresh_object, made, object_with, put, release, unless_fault, value_at, value_in, with_value, without, written}
+use Rattle.kt_mem.specs.Memory.{Cell, Memory, Object, alloc, alloc_fault, and_then, fresh_object, made, object_with, put, release, unless_fault, value_at, value_in, with_value, written}
 use Rattle.kt_mem.proofs.Changes.{alloc_ok, and_then_ok, release_ok, written_ok}
 use Rattle.kt_mem.proofs.MemoryLaws.{same_shape-with}
 use Rattle.kt_mem.proofs.Names.{put-cases, put-other, put-same, same_name}
@@ -96,9 +96,12 @@ module _ (types : Table) where
               → (o : Object) × (after.at (Glob i) ≡ Some o) × (o.ty ≡ d.ty) × (o.count ≡ d.count)
           global i d is (o, at, ty, count) = elim (same_name (Glob i) q) [
             | inl same ↦
-                let there : m.at q ≡ Some o = ap m.at (sym same) ∙ at in
-                (object_with k cell o,
-                 ap after.at same ∙ put-same m.at q (option_map (object_with k cell) (m.at q)) ∙ ap (option_map (object_with k cell)) there, ty, count)
+                let there : m.at q ≡ Some o = ap m.at (sym same) ∙ at in (
+                  object_with k cell o,
+                  ap after.at same ∙ put-same m.at q (option_map (object_with k cell) (m.at q)) ∙ ap (option_map (object_with k cell)) there,
+                  ty,
+                  count,
+                )
             | inr other ↦ (o, put-other m.at q (Glob i) (option_map (object_with k cell) (m.at q)) other ∙ at, ty, count)
           ]
 

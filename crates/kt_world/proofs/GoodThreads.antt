@@ -1,7 +1,6 @@
 -- Threads of typed worlds: what is kept of them beside their types, and how they begin and go on.
-use Rattle.std.specs.Prelude.{◌≡◌, ◌⊎◌, ℕ, zero, suc, ◌+◌, ◌-◌, ◌<◌, ◌==◌, IsTrue, Bool, true, false, List, [], ◌∷◌, ◌++◌, codes, length, map, replicate, slice_get, slice_set, take, Option, None, Some, refl}
-use Rattle.std.specs.List.{AllByRecursion}
-use Rattle.std.proofs.Common.{arith, ap, eqb-true, inl, inr, sym, subst, ◌∙◌}
+use Rattle.std.specs.Prelude.{◌≡◌, ℕ, zero, suc, ◌+◌, ◌-◌, List, [], ◌∷◌, ◌++◌, codes, length, map, replicate, slice_get, slice_set, take, Option, Some, refl}
+use Rattle.std.proofs.Common.{arith, inl, sym, subst}
 use Rattle.std.proofs.lemmas.Option.{none-some, same_Some}
 use Rattle.kt_types.specs.declared.kinds.FieldDecl.{FieldDecl}
 use Rattle.kt_types.specs.Table.{Table}
@@ -12,21 +11,20 @@ use Rattle.kt_mem.specs.declared.steps.Act.TheVariants as act
 use Rattle.kt_mem.specs.declared.steps.Reply.{Reply}
 use Rattle.kt_mem.specs.declared.steps.Reply.TheVariants.{Done, Got, Trapped}
 use Rattle.kt_tree.specs.Tree.{Function}
-use Rattle.kt_tree.specs.Version.{IsFunction, IsProgram, Program, head_of, scope_of}
+use Rattle.kt_tree.specs.Version.{IsFunction, IsProgram, Program}
 use Rattle.kt_meaning.proofs.StepTypes.{Keeps}
 use Rattle.kt_meaning.proofs.WorkTypes.{settle-IsThread, step-Keeps}
 use Rattle.kt_meaning.specs.Laws.{IsReplyTo, numbered}
-use Rattle.kt_meaning.specs.Requests.{IsReplyOf, Tells}
+use Rattle.kt_meaning.specs.Requests.{IsReplyOf}
 use Rattle.kt_meaning.specs.Steps.{Step, Quiet, Acts, Traps, Ends, after_reply}
 use Rattle.kt_meaning.specs.Thread as tree
-use Rattle.kt_meaning.specs.ThreadTypes.{IsRestart, IsThread, IsTypedAct, types_of}
-use Rattle.kt_meaning.specs.Values.{AreIn, IsIn}
+use Rattle.kt_meaning.specs.ThreadTypes.{IsRestart, IsThread, types_of}
+use Rattle.kt_meaning.specs.Values.{AreIn}
 use Rattle.xf_plan.proofs.TypedImages.{all-get}
-use Rattle.kt_world.specs.Job.{Job, version_at}
 use Rattle.kt_world.specs.Refusals.{point_of, point_of_act}
-use Rattle.kt_world.specs.Trees.{entry_in, tree_engine, tree_entry, tree_settle, tree_step}
-use Rattle.kt_world.specs.Typed.{AreArguments, IsThreadOf, IsTypedJob}
-use Rattle.kt_world.specs.World.{Standing, Live, Waiter, Parked, Ended, Thread, World}
+use Rattle.kt_world.specs.Trees.{entry_in, tree_entry, tree_settle, tree_step}
+use Rattle.kt_world.specs.Typed.{AreArguments, IsThreadOf}
+use Rattle.kt_world.specs.World.{Standing, Live, Waiter, Parked, Ended, Thread}
 
 -- ---- what is kept
 

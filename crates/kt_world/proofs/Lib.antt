@@ -14,6 +14,7 @@ pub mod TypedActs
 pub mod NewMemories
 pub mod TypedRoots
 pub mod NewThreads
+pub mod TypedTurns
 pub mod Places
 pub mod Taking
 pub mod Telling

@@ -1,5 +1,5 @@
 -- The memories with which versions begin are typed: globals with their initial values, and literals.
-use Rattle.std.specs.Prelude.{◌≡◌, IsTrue, ℕ, zero, suc, ◌+◌, ◌-◌, ◌*◌, ◌<◌, ◌≤◌, ◌^◌, ◌==◌, ℤ, pos, negsuc, nat_lt, Bool, true, false, List, [], ◌∷◌, ◌++◌, length, map, slice_get, take, Option, Some, None, refl, if◌then◌else◌}
+use Rattle.std.specs.Prelude.{◌≡◌, ℕ, zero, suc, ◌+◌, ◌-◌, ◌*◌, ◌<◌, ◌≤◌, ◌^◌, ◌==◌, ℤ, pos, negsuc, nat_lt, Bool, true, false, List, [], ◌∷◌, ◌++◌, length, map, slice_get, take, Option, Some, None, refl, if◌then◌else◌}
 use Rattle.std.specs.List.{AllByRecursion}
 use Rattle.std.specs.Option.{option_map, is_some}
 use Rattle.std.proofs.Common.{ap, sym, subst, ◌∙◌, arith, inl, inr, length-append}
@@ -16,8 +16,7 @@ use Rattle.kt_types.specs.Layout.{cells, layout, repeated}
 use Rattle.kt_types.specs.Table.{Table}
 use Rattle.kt_mem.specs.declared.memory.Name.{Name}
 use Rattle.kt_mem.specs.declared.memory.Name.TheVariants.{Glob, Lit, Heap}
-use Rattle.kt_mem.specs.declared.memory.Value.{Value}
-use Rattle.kt_mem.specs.declared.memory.Value.TheVariants.{Num, Ptr, Undef}
+use Rattle.kt_mem.specs.declared.memory.Value.TheVariants.{Num}
 use Rattle.kt_mem.specs.Arithmetic.{fits}
 use Rattle.kt_mem.specs.Memory.{Cell, Memory, Object}
 use Rattle.kt_mem.specs.Memory as memory
@@ -28,10 +27,10 @@ use Rattle.kt_tree.specs.Kinds.{char_type, fits_in}
 use Rattle.kt_tree.specs.Version.{IsGlobal, IsProgram, Program, is_initial}
 use Rattle.kt_meaning.proofs.OperationTypes.{and-true}
 use Rattle.kt_meaning.specs.Laws.{IsTyped}
-use Rattle.xf_plan.specs.KeepsTypes.{IsMemoryOf, IsOfChars, IsSmall, IsValueOf}
+use Rattle.xf_plan.specs.KeepsTypes.{IsMemoryOf}
 use Rattle.xf_plan.proofs.TypedImages.{Holds, IsObjectOf, all-append, all-get, all-hold, ty_of}
 use Rattle.kt_world.specs.Typed.{HasGlobals}
-use Rattle.kt_world.specs.Update.{char_cell, global_at, global_object, initial_cell, literal_object, object_at}
+use Rattle.kt_world.specs.Update.{char_cell, global_object, initial_cell, literal_object, object_at}
 
 -- ---- initial values
 
@@ -167,7 +166,7 @@ module _ (p : Program) (h : IsProgram p) where
 
     -- the objects of the program beside others
     module _ (others : Name → Option Object) (literals : (w i : ℕ) (o : Object) → others (Lit w i) ≡ Some o → IsObjectOf p.types (Lit w i) o)
-      (objects : (a : ℕ) (o : Object) → others (Heap a) ≡ Some o → IsObjectOf p.types (Heap a) o) where
+        (objects : (a : ℕ) (o : Object) → others (Heap a) ≡ Some o → IsObjectOf p.types (Heap a) o) where
       from-global : (i : ℕ) (d : Option GlobalDecl) (o : Object) → slice_get p.globals i ≡ d → option_map (global_object v p.types) d ≡ Some o → IsObjectOf p.types (Glob i) o
       from-global i None o at is = absurd (none-some o is)
       from-global i (Some g) o at is =

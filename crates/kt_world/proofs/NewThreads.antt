@@ -1,9 +1,9 @@
 -- Threads that begin again in the new version are typed by it.
-use Rattle.std.specs.Prelude.{◌≡◌, ◌⊎◌, ℕ, zero, suc, ◌+◌, ◌<◌, ◌==◌, ◌&&◌, ◌||◌, not, Bool, true, false, List, [], ◌∷◌, ◌++◌, codes, flat_map, get_or, map, take, length, slice_get, Option, None, Some, option_and_then, unwrap_or, Result, Ok, Err, refl, if◌then◌else◌}
+use Rattle.std.specs.Prelude.{◌≡◌, ◌⊎◌, ℕ, zero, suc, ◌+◌, ◌<◌, ◌==◌, ◌&&◌, ◌||◌, not, Bool, true, false, List, [], ◌∷◌, ◌++◌, codes, flat_map, get_or, map, take, slice_get, Option, None, Some, option_and_then, unwrap_or, Ok, refl, if◌then◌else◌}
 use Rattle.std.specs.Cmp.Lexicographic.{pointwise, bytes_decides}
-use Rattle.std.specs.List.{AllByRecursion, list_all, position}
+use Rattle.std.specs.List.{AllByRecursion, list_all}
 use Rattle.std.specs.Option.{option_map}
-use Rattle.std.proofs.Common.{arith, ap, eqb-true, inl, inr, sym, subst, ◌∙◌}
+use Rattle.std.proofs.Common.{arith, ap, inl, inr, sym, subst, ◌∙◌}
 use Rattle.std.proofs.lemmas.Bool.{cases_order, eq-eqb, ne_eqb}
 use Rattle.std.proofs.lemmas.List.{length-take}
 use Rattle.std.proofs.lemmas.List.Quantifiers.{position-Some}
@@ -12,26 +12,22 @@ use Rattle.kt_types.specs.declared.kinds.FieldDecl.{FieldDecl}
 use Rattle.kt_types.specs.declared.kinds.Ty.{Ty}
 use Rattle.kt_types.specs.Table.{Table}
 use Rattle.kt_mem.specs.declared.memory.Value.{Value}
-use Rattle.kt_mem.specs.declared.memory.Value.TheVariants.{Undef}
 use Rattle.kt_mem.specs.declared.thread.KeptLocal.{KeptLocal}
-use Rattle.kt_mem.specs.declared.thread.Mode.{Mode}
-use Rattle.kt_mem.specs.declared.thread.Mode.TheVariants.{Normal, Updating}
 use Rattle.kt_mem.specs.Memory.{Memory}
 use Rattle.kt_tree.proofs.Distinct.{distinct-back}
 use Rattle.kt_tree.specs.Kinds.{is_scalar}
 use Rattle.kt_tree.specs.Names.{place_of}
 use Rattle.kt_tree.specs.Tree.{Function}
-use Rattle.kt_tree.specs.Version.{AreDistinct, IsFunction, IsProgram, Program, function_names, global_names, head_of, scope_of, update_points}
+use Rattle.kt_tree.specs.Version.{AreDistinct, IsFunction, IsProgram, Program, function_names, global_names, scope_of, update_points}
 use Rattle.kt_meaning.proofs.StepTypes.{get-map}
-use Rattle.kt_meaning.specs.Steps.{Step}
 use Rattle.kt_meaning.specs.Thread as tree
-use Rattle.kt_meaning.specs.ThreadTypes.{AreKept, IsKept, IsMode, IsRestart}
+use Rattle.kt_meaning.specs.ThreadTypes.{AreKept, IsMode, IsRestart}
 use Rattle.kt_meaning.specs.Values.{AreIn, IsIn, IsOf}
 use Rattle.xf_plan.proofs.NewTypes.{place-found}
 use Rattle.xf_plan.proofs.TypedImages.{all-append, all-get, new_value-of}
 use Rattle.xf_plan.specs.Images.{FreshPlace, fresh_places, new_value}
-use Rattle.xf_plan.specs.KeepsTypes.{GivesOf, IsLocalOf, IsMemoryOf, IsValueOf, KeepsTypes}
-use Rattle.xf_plan.specs.Plan.{LocalRule, LocalSource, Plan}
+use Rattle.xf_plan.specs.KeepsTypes.{IsLocalOf, IsMemoryOf, IsValueOf, KeepsTypes}
+use Rattle.xf_plan.specs.Plan.{LocalRule, LocalSource}
 use Rattle.xf_plan.specs.PreValues.{pre_argument, pre_local}
 use Rattle.xf_plan.specs.declared.place.Place.{Place}
 use Rattle.xf_plan.specs.declared.place.Place.TheVariants.{GlobalCell, Argument, Local, HeapCell}
@@ -39,13 +35,13 @@ use Rattle.xf_plan.specs.declared.place.Root.{Root}
 use Rattle.kt_world.specs.Events.{all_parked}
 use Rattle.kt_world.specs.Job.{Job, Passage, version_at}
 use Rattle.kt_world.specs.Trees.{tree_engine}
-use Rattle.kt_world.specs.Refusals.{lacks_entry, new_point, next_point, point_of}
+use Rattle.kt_world.specs.Refusals.{lacks_entry, next_point, point_of}
 use Rattle.kt_world.specs.Roots.{argument_of, argument_root, arguments_of, function_at, if_root, local_as, local_root, locals_by, locals_of, new_function, new_parameter, old_local, only_parameter, root, argument_as, thread_roots}
 use Rattle.kt_world.specs.Typed.{AreArguments, IsThreadOf}
 use Rattle.kt_world.specs.Update.{all_restarted, argument_at, begun_again, if_parked, restarted, kept_at, kept_local, kept_locals, moved_arguments, updating_from}
 use Rattle.kt_world.specs.World.{Call, Engine, Standing, Live, Waiter, Parked, Ended, Thread, is_parked, lives}
 use Rattle.kt_world.proofs.GoodThreads.{AllFrom, IsGood, IsGoodAs, IsMainFunction, OfNumber, begun}
-use Rattle.kt_world.proofs.TypedRoots.{IsArgument, IsOnly, PlaceFits, RootFits, argument-root-is, argument-root-main, locals-of-fit, may-enter, only-is, only-parameters, root-exists}
+use Rattle.kt_world.proofs.TypedRoots.{IsOnly, PlaceFits, RootFits, argument-root-is, argument-root-main, locals-of-fit, may-enter, only-is, only-parameters, root-exists}
 
 -- a value of a type of a table
 in-of : (types : Table) (t : ℕ) (u : Ty) (v : Value) → slice_get types.types t ≡ Some u → IsValueOf u v → IsIn types t v
@@ -66,7 +62,7 @@ module _ (p : Program) (h : IsProgram p) where
   main-named : slice_get (function_names p) h.main.0 ≡ Some (codes "main")
   main-named = get-map (λ f. f.name) p.functions h.main.0 h.main.1 h.main.2 ∙ ap Some h.main.3.0
 
-  main-place : place_of (codes "main") (function_names p) ≡ Some h.main.0
+  pub main-place : place_of (codes "main") (function_names p) ≡ Some h.main.0
   main-place =
       let found = place-found (pointwise ◌==◌ (codes "main")) (function_names p) h.main.0 (codes "main") main-named ((bytes_decides (codes "main") (codes "main")).1 refl) in
       let there = position-Some (pointwise ◌==◌ (codes "main")) (function_names p) found.0 [] found.1 in
@@ -75,10 +71,10 @@ module _ (p : Program) (h : IsProgram p) where
       ∙ ap Some (sym ((bytes_decides (codes "main") (get_or (function_names p) found.0 [])).0 there.1)) in
       found.1 ∙ ap Some (same-place (function_names p) (distinct-back (global_names p) (function_names p) h.distinct) found.0 h.main.0 (codes "main") named main-named)
 
-  main-is : IsMainFunction p h.main.0
+  pub main-is : IsMainFunction p h.main.0
   main-is = record { function = h.main.1; function_is = h.main.2; name = h.main.3.0; params = h.main.3.2 }
 
-  main-arguments : AreArguments p h.main.0 []
+  pub main-arguments : AreArguments p h.main.0 []
   main-arguments = record {
     function = h.main.1;
     function_is = h.main.2;
@@ -243,7 +239,7 @@ all-scalar p f (l ∷ ls) n d all at = by (is_scalar (scope_of p f) l.ty) refl n
 -- ---- threads begin again
 
 module _ (job : Job) (j : Passage) (keeps : KeepsTypes j.old j.new j.plan) (m : Memory) (memory : IsMemoryOf j.old.types m) (v : ℕ) (new : IsProgram j.new)
-  (there : version_at job (suc v) ≡ Some j.new) where
+    (there : version_at job (suc v) ≡ Some j.new) where
   abbrev o : Option Program
   o = version_at job v
 
@@ -263,14 +259,16 @@ module _ (job : Job) (j : Passage) (keeps : KeepsTypes j.old j.new j.plan) (m : 
     where
       one : (u f x : ℕ) → (d : FieldDecl) × IsLocalOf j.new f x d × (slice_get j.new.types.types d.ty ≡ Some r.ty) → (b : Bool)
           → AreKept j.new (if b then kept_local f x (new_value j.plan m fresh r.place r.value) ∷ [] else [])
-      one u f x (d, is, type) true =
-          (record {
-            function = is.function;
-            local = d;
-            function_is = is.function_is;
-            local_is = is.local_is;
-            value = in-of j.new.types d.ty r.ty (new_value j.plan m fresh r.place r.value) type (new_value-of j.plan m fresh r.place r.ty r.value all.0.gives);
-          }, tt)
+      one u f x (d, is, type) true = (
+        record {
+          function = is.function;
+          local = d;
+          function_is = is.function_is;
+          local_is = is.local_is;
+          value = in-of j.new.types d.ty r.ty (new_value j.plan m fresh r.place r.value) type (new_value-of j.plan m fresh r.place r.ty r.value all.0.gives);
+        },
+        tt,
+      )
       one u f x fits false = tt
 
       by : (place : Place) → PlaceFits j keeps m memory v o r place → AreKept j.new (kept_at j.plan m fresh k r place)

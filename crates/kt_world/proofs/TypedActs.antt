@@ -1,8 +1,8 @@
 -- Typed worlds stay typed through acts.
-use Rattle.std.specs.Prelude.{◌≡◌, IsTrue, ℕ, zero, suc, pos, ◌+◌, ◌<◌, ◌==◌, ◌^◌, nat_le, nat_lt, Bool, true, false, List, [], ◌∷◌, ◌++◌, length, map, slice_get, slice_set, Option, None, Some, Result, Ok, Err, refl, if◌then◌else◌}
-use Rattle.std.proofs.Common.{inl, inr, arith, ap, eqb-true, leb-false, sym, subst, ◌∙◌}
+use Rattle.std.specs.Prelude.{◌≡◌, IsTrue, ℕ, suc, pos, ◌+◌, ◌<◌, ◌^◌, nat_le, nat_lt, Bool, true, false, List, [], ◌∷◌, ◌++◌, length, slice_get, slice_set, Option, None, Some, Result, Ok, Err, refl, if◌then◌else◌}
+use Rattle.std.proofs.Common.{inr, arith, ap, eqb-true, leb-false, sym, subst, ◌∙◌}
 use Rattle.std.proofs.lemmas.Bool.{lt-ltb}
-use Rattle.std.proofs.lemmas.Option.{none-some, same_Some}
+use Rattle.std.proofs.lemmas.Option.{none-some}
 use Rattle.kt_types.specs.Table.{Table}
 use Rattle.kt_mem.specs.declared.memory.Value.{Value}
 use Rattle.kt_mem.specs.declared.memory.Value.TheVariants.{Num, Null, Ptr, Free, Held, Undef}
@@ -15,8 +15,7 @@ use Rattle.kt_mem.specs.declared.steps.Trap.TheVariants as trap
 use Rattle.kt_mem.specs.declared.thread.Mode.{Mode}
 use Rattle.kt_mem.specs.declared.thread.Mode.TheVariants.{Normal, Updating}
 use Rattle.kt_mem.specs.Memory.{Memory, signal, unlock}
-use Rattle.kt_tree.specs.Kinds.{is_entry, is_entry_head}
-use Rattle.kt_tree.specs.Tree.{Function}
+use Rattle.kt_tree.specs.Kinds.{is_entry_head}
 use Rattle.kt_tree.specs.Version.{IsProgram, Program, head_of}
 use Rattle.kt_meaning.proofs.EffectTypes.{effect-IsOutcomeOf}
 use Rattle.kt_meaning.proofs.StepTypes.{Keeps}
@@ -24,18 +23,18 @@ use Rattle.kt_meaning.specs.Effects as outside
 use Rattle.kt_meaning.specs.Effects.{Outcome, Replies, Waits, Elsewhere}
 use Rattle.kt_meaning.specs.Laws.{IsOutcomeOf, IsReplyTo}
 use Rattle.kt_meaning.specs.Requests.{IsReplyOf}
-use Rattle.kt_meaning.specs.Steps.{Step, Quiet, Acts, Traps, Ends, after_reply}
+use Rattle.kt_meaning.specs.Steps.{Step, Quiet, Acts, Traps, Ends}
 use Rattle.kt_meaning.specs.Thread as tree
 use Rattle.kt_meaning.specs.ThreadTypes.{IsEntry, IsTypedAct}
 use Rattle.kt_meaning.specs.Laws.{IsShared}
 use Rattle.kt_meaning.specs.ThreadTypes.{IsThread}
-use Rattle.kt_meaning.specs.Values.{AreIn, IsAt, is_of}
+use Rattle.kt_meaning.specs.Values.{AreIn, is_of}
 use Rattle.kt_meaning.proofs.OperationTypes.{and-true}
 use Rattle.kt_types.specs.declared.kinds.Ty.TheVariants as ty
 use Rattle.xf_plan.specs.KeepsTypes.{AreKeptFor, IsMemoryOf}
 use Rattle.kt_phase.specs.declared.counters.Phase.{Phase}
 use Rattle.kt_phase.specs.declared.counters.Phase.TheVariants.{Run, Asked, Main, Others}
-use Rattle.kt_world.specs.Acts.{act_of, answered, at_point, awake, created, effect, elsewhere, ends, gone_on, joins, migrated, new_thread, on_outcome, signalled, waited, waiting_in, waits_for, with_new, with_shared, with_thread, woken, woken_all, woken_first}
+use Rattle.kt_world.specs.Acts.{answered, at_point, awake, created, effect, elsewhere, ends, gone_on, joins, migrated, new_thread, on_outcome, signalled, waited, waiting_in, waits_for, with_new, with_shared, with_thread, woken, woken_first}
 use Rattle.kt_world.specs.Job.{Job, types_at, types_of, version_at}
 use Rattle.kt_world.specs.Refusals.{point_of}
 use Rattle.kt_world.specs.Trees.{tree_engine, tree_step}

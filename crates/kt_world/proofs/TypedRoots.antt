@@ -1,14 +1,13 @@
 -- The roots that threads add to an update of a typed world: their pre-values are of their types, and a local is one of the new version.
-use Rattle.std.specs.Prelude.{◌≡◌, ◌⊎◌, ℕ, zero, suc, ◌+◌, ◌<◌, ◌==◌, ◌||◌, not, Bool, true, false, List, [], ◌∷◌, ◌++◌, map, take, slice_get, Option, None, Some, option_and_then, Result, Ok, Err, refl, if◌then◌else◌}
+use Rattle.std.specs.Prelude.{◌≡◌, ℕ, zero, suc, ◌==◌, not, Bool, true, false, List, [], ◌∷◌, map, take, slice_get, Option, None, Some, option_and_then, Ok, refl, if◌then◌else◌}
 use Rattle.std.specs.List.{AllByRecursion}
 use Rattle.std.specs.Option.{option_map}
-use Rattle.std.proofs.Common.{arith, ap, eqb-true, inl, inr, sym, subst, ◌∙◌}
+use Rattle.std.proofs.Common.{ap, eqb-true, sym, subst, ◌∙◌}
 use Rattle.std.proofs.lemmas.Option.{none-some, same_Some}
 use Rattle.kt_types.specs.declared.kinds.FieldDecl.{FieldDecl}
 use Rattle.kt_types.specs.declared.kinds.Ty.{Ty}
 use Rattle.kt_types.specs.Table.{Table}
 use Rattle.kt_mem.specs.declared.memory.Value.{Value}
-use Rattle.kt_mem.specs.declared.memory.Value.TheVariants.{Undef}
 use Rattle.kt_mem.specs.Memory.{Memory}
 use Rattle.kt_tree.specs.Tree.{Function}
 use Rattle.kt_tree.specs.Typed.{Kind, kind_of}
@@ -17,22 +16,22 @@ use Rattle.kt_meaning.proofs.StepTypes.{get-map}
 use Rattle.kt_meaning.specs.Thread as tree
 use Rattle.kt_meaning.specs.ThreadTypes.{AreBelow, AreFrames, IsCall, types_of}
 use Rattle.kt_meaning.specs.Values.{AreIn, IsIn}
-use Rattle.xf_plan.proofs.TypedImages.{all-append, all-get}
+use Rattle.xf_plan.proofs.TypedImages.{all-append}
 use Rattle.xf_plan.specs.Correspondence.{converts}
 use Rattle.xf_plan.specs.KeepsTypes.{GivesOf, IsLocalOf, IsMemoryOf, KeepsLocal, KeepsNoted, KeepsSource, KeepsTypes}
 use Rattle.xf_plan.specs.Plan.{LocalRule, LocalSource}
 use Rattle.xf_plan.specs.PreValues.{pre_argument, pre_local}
 use Rattle.xf_plan.specs.declared.place.Place.{Place}
-use Rattle.xf_plan.specs.declared.place.Place.TheVariants.{GlobalCell, Argument, Local, HeapCell}
+use Rattle.xf_plan.specs.declared.place.Place.TheVariants.{Argument, Local}
 use Rattle.xf_plan.specs.declared.place.Root.{Root}
 use Rattle.kt_world.specs.Job.{Passage}
 use Rattle.kt_world.specs.Refusals.{lacks_entry, may_enter}
-use Rattle.kt_world.specs.Roots.{argument_as, argument_of, argument_root, arguments_of, function_at, if_entry, if_root, local_as, local_root, locals_by, locals_of, new_parameter, old_local, old_parameter, oldest, only_parameter, or_this, root, thread_roots}
+use Rattle.kt_world.specs.Roots.{argument_as, argument_root, if_entry, if_root, local_as, local_root, locals_by, locals_of, new_parameter, old_local, old_parameter, oldest, only_parameter, or_this, root}
 use Rattle.kt_world.specs.Trees.{call_of, tree_engine}
-use Rattle.kt_world.specs.Typed.{AreArguments, IsThreadOf}
-use Rattle.kt_world.specs.World.{Call, Engine, Standing, Live, Waiter, Parked, Ended, Thread, lives}
+use Rattle.kt_world.specs.Typed.{AreArguments}
+use Rattle.kt_world.specs.World.{Call, Standing, Live, Waiter, Parked, Ended, Thread, lives}
 use Rattle.kt_world.specs.Job as job
-use Rattle.kt_world.proofs.GoodThreads.{AllFrom, IsGood, IsGoodAs, IsMainFunction, OfNumber}
+use Rattle.kt_world.proofs.GoodThreads.{AllFrom, IsGood, IsGoodAs, IsMainFunction}
 
 -- a value of a list whose types are these
 in-get : (types : Table) (ts : List ℕ) (vs : List Value) (n t : ℕ) (v : Value) → AreIn types ts vs → slice_get ts n ≡ Some t → slice_get vs n ≡ Some v → IsIn types t v
@@ -237,6 +236,7 @@ module _ (j : Passage) (keeps : KeepsTypes j.old j.new j.plan) (m : Memory) (mem
 
       by : (arguments : List Value) → AreIn j.old.types (may.old.ty ∷ []) arguments → (r : Root) × (argument_root j t th.entry arguments ≡ Some r)
       by [] a = absurd a
-      by (x ∷ more) a =
-          (root (Argument t) u (Ok (pre_argument u x)) may.new,
-           ap (option_and_then (argument_as j t x)) may.new_is ∙ ap (option_map (λ u. root (Argument t) u (Ok (pre_argument u x)) may.new)) own)
+      by (x ∷ more) a = (
+        root (Argument t) u (Ok (pre_argument u x)) may.new,
+        ap (option_and_then (argument_as j t x)) may.new_is ∙ ap (option_map (λ u. root (Argument t) u (Ok (pre_argument u x)) may.new)) own,
+      )

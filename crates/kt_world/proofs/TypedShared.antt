@@ -1,7 +1,7 @@
 -- What threads share stays typed through acts on memory, input and output, a wait, a signal, and where kept values are placed.
-use Rattle.std.specs.Prelude.{◌++◌, ◌+◌, nat_lt, length, ◌≡◌, ◌⊎◌, ℕ, zero, suc, pos, negsuc, ◌<◌, true, false, Bool, is_some, List, [], ◌∷◌, map, slice_get, Option, None, Some, Result, Ok, Err, refl, if◌then◌else◌}
+use Rattle.std.specs.Prelude.{◌++◌, ◌+◌, nat_lt, length, ◌≡◌, ℕ, zero, suc, pos, negsuc, true, false, Bool, is_some, List, [], ◌∷◌, map, slice_get, Option, None, Some, Result, Ok, Err, refl, if◌then◌else◌}
 use Rattle.std.specs.Option.{option_map}
-use Rattle.std.proofs.Common.{ap, sym, subst, ◌∙◌, inl, inr}
+use Rattle.std.proofs.Common.{ap, sym, subst, ◌∙◌}
 use Rattle.std.proofs.lemmas.Option.{none-some, same_Some}
 use Rattle.kt_types.specs.declared.kinds.Ty.{Ty}
 use Rattle.kt_types.specs.declared.kinds.Ty.TheVariants as ty
@@ -19,7 +19,7 @@ use Rattle.kt_mem.specs.declared.steps.Trap.{Trap}
 use Rattle.kt_mem.specs.declared.steps.Trap.TheVariants as trap
 use Rattle.kt_mem.specs.declared.thread.Mode.{Mode}
 use Rattle.kt_mem.specs.declared.thread.Mode.TheVariants.{Normal, Updating}
-use Rattle.kt_mem.specs.Memory.{Cell, Memory, Object, alloc, init_mutex, initialised, lock, locked, release, signal, signalled, store, unless_literal, unlock, unlocked, waits}
+use Rattle.kt_mem.specs.Memory.{Cell, Memory, Object, alloc, init_mutex, initialised, lock, locked, release, store, unless_literal, unlock, unlocked, waits}
 use Rattle.kt_tree.specs.declared.global.GlobalDecl.{GlobalDecl}
 use Rattle.kt_tree.specs.Version.{Program}
 use Rattle.kt_meaning.specs.Effects as outside
@@ -32,7 +32,7 @@ use Rattle.kt_world.specs.Acts.{migrated, placed, placed_at, placed_into, with_v
 use Rattle.kt_world.specs.Typed.{HasGlobals, IsTypedShared}
 use Rattle.kt_world.specs.World.{Shared, outside_of, with_outside}
 use Rattle.kt_mem.specs.Laws.{SameShape}
-use Rattle.kt_world.proofs.Formed.{IsFormed, IsFormedAs, alloc-formed, release-formed, same-form, written-formed}
+use Rattle.kt_world.proofs.Formed.{IsFormed, alloc-formed, release-formed, same-form, written-formed}
 
 -- ---- from form and cells
 

@@ -1,9 +1,7 @@
 -- Typed worlds: each thread that has not ended is one of the version in force, each object has the cells of its element type as often as
 -- its count says, and each cell, each kept value and each argument is of its type or undefined.
-use Rattle.std.specs.Prelude.{◌≡◌, ℕ, ◌<◌, List, [], ◌∷◌, slice_get, Option, None, Some}
+use Rattle.std.specs.Prelude.{◌≡◌, ℕ, ◌<◌, List, slice_get, Some}
 use Rattle.std.specs.List.{AllByRecursion}
-use Rattle.kt_types.specs.Layout.{layout}
-use Rattle.kt_mem.specs.declared.memory.Name.{Name}
 use Rattle.kt_mem.specs.declared.memory.Name.TheVariants.{Glob}
 use Rattle.kt_mem.specs.declared.memory.Value.{Value}
 use Rattle.kt_mem.specs.Memory.{Memory, Object}

@@ -4,6 +4,7 @@ ghost use Rattle.kt_world.specs.Calm.{CalmTurnsAreOneStep};
 ghost use Rattle.kt_world.specs.Laws.{AListIsMade, BudgetIsKept, EndedAreGone, EndsAreLast, HeapNumbersNeverFall, MainIsAlone, MarksAreInOrder, MarksTellOfJobs, OneListIsComplete, OneMoreIsTheNext, OneMoreMayBeTaken, RefusalsChangeNothing, ThreadsAreFew, TurnsAreCounted, TurnsAreOfThreads};
 ghost use Rattle.kt_world.specs.Plain.{job_of};
 ghost use Rattle.kt_world.specs.Trees.{tree_engine};
+ghost use Rattle.kt_world.specs.Typed.{WorldsAreTyped};
 ghost use Rattle.kt_world.specs.Rows.{ChainRow, EndedRow, JoinRow, JoinTraps, RefusalRow, RequestRow, SignalRow, StuckRow, UpdateRow, WakeRow};
 
 use crate::job::Job;
@@ -15,7 +16,9 @@ use crate::job::Job;
 /// `main` at its point and then by all threads at theirs, and the end of a run is its last mark. A thread that has ended
 /// has no call, there are at most 65 threads, and the next heap number never falls. A turn is that of a thread below 65, no
 /// more turns are made than the budget allows, and marks tell of threads below 65, and of globals and locals that the version
-/// has which a closing was to bring, where the job's plans do.
+/// has which a closing was to bring, where the job's plans do. Where the job's versions are programs and its plans keep types, each
+/// world is typed: a thread that hasn't ended is one of the version in force, each object has the cells of its element type as often
+/// as its count says, and each cell, each kept value and each argument is of its type or undefined.
 pub fn world_law(job: &Job, turns: &[u8])
     ensures may { OneMoreMayBeTaken (job_of job.now) turns.now }
     ensures next { OneMoreIsTheNext (job_of job.now) turns.now }
@@ -29,6 +32,7 @@ pub fn world_law(job: &Job, turns: &[u8])
     ensures budget { BudgetIsKept (job_of job.now) turns.now }
     ensures tell { MarksTellOfJobs (job_of job.now) turns.now }
     ensures heap_numbers { HeapNumbersNeverFall (job_of job.now) turns.now }
+    ensures typed { WorldsAreTyped (job_of job.now) turns.now }
 {}
 
 /// A schedule, which chooses each turn by the turns before it and the world, makes one complete list of turns where it

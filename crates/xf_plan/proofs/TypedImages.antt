@@ -327,9 +327,10 @@ pub fresh-formed : (types : Table) (number a count : ℕ) (zeros : Bool) (ts : L
 fresh-formed types number a count zeros ts has size =
     let own : cells types a ≡ ts = cells-is types a ts has in
     let made = map (fresh_cell zeros) (cells types a) in
-    let same : map ty_of (memory.repeated count made) ≡ repeated count ts = repeated-types count made ∙ ap (repeated count) (fresh-types zeros (cells types a) ∙ own) in
-    (shaped-so types a count ts (map ty_of (memory.repeated count made)) has same,
-     small-cells count ts (memory.repeated count made) same (subst (λ n. count * n ≤ 65536) (ap length own) size))
+    let same : map ty_of (memory.repeated count made) ≡ repeated count ts = repeated-types count made ∙ ap (repeated count) (fresh-types zeros (cells types a) ∙ own) in (
+      shaped-so types a count ts (map ty_of (memory.repeated count made)) has same,
+      small-cells count ts (memory.repeated count made) same (subst (λ n. count * n ≤ 65536) (ap length own) size),
+    )
 
 module _ (old : Table) (p : Plan) (m : Memory) (is : IsMemoryOf old m) where
   -- the image of a heap object

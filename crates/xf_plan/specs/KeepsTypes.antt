@@ -105,8 +105,8 @@ pub record KeepsGlobal (old : Table) (p : Plan) (i : ℕ) (d : GlobalDecl) (g : 
   pub ty : g.ty ≡ d.ty
   pub count : g.count ≡ d.count
   pub spots :
-    (m : Memory) (sources : List Source) → IsMemoryOf old m → global_sources p g g.source ≡ Some sources
-    → AreSpotsOf p (repeated d.count (cells p.new d.ty)) (spots_of p m (GlobalCell i) (origin g.source) (global_cells p.new g) (Some sources))
+      (m : Memory) (sources : List Source) → IsMemoryOf old m → global_sources p g g.source ≡ Some sources
+      → AreSpotsOf p (repeated d.count (cells p.new d.ty)) (spots_of p m (GlobalCell i) (origin g.source) (global_cells p.new g) (Some sources))
 
 -- the rules of the new version's globals, counted from i
 abbrev pub KeepsGlobals : Table → Plan → ℕ → List GlobalDecl → List GlobalRule → Type 0
@@ -130,8 +130,8 @@ pub record KeepsLocal (old : Program) (p : Plan) (r : LocalRule) (s : LocalSourc
   pub local : FieldDecl
   pub is : IsLocalOf old s.function s.local local
   pub gives :
-    (m : Memory) (u : Ty) (v : Value) → IsMemoryOf old.types m → IsIn old.types local.ty v → slice_get p.new.types r.ty ≡ Some u
-    → GivesOf p u (pre_local p m u s.body v)
+      (m : Memory) (u : Ty) (v : Value) → IsMemoryOf old.types m → IsIn old.types local.ty v → slice_get p.new.types r.ty ≡ Some u
+      → GivesOf p u (pre_local p m u s.body v)
 
 abbrev pub KeepsSource : Program → Plan → LocalRule → Option LocalSource → Type 0
 KeepsSource old p r None = Unit {0}

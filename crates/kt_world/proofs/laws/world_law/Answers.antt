@@ -7,6 +7,7 @@ use Rattle.kt_world.proofs.Marking.{ends-are-last, marks-are-in-order}
 use Rattle.kt_world.proofs.Numbering.{threads-are-few}
 use Rattle.kt_world.proofs.Taking.{budget-kept, turns-of-threads}
 use Rattle.kt_world.proofs.Telling.{marks-tell}
+use Rattle.kt_world.proofs.TypedTurns.{worlds-are-typed}
 use Rattle.kt_world.proofs.laws.world_law.Goals as goal
 
 pub returns : goal.returns
@@ -26,4 +27,5 @@ returns c =
       budget = budget-kept job turns;
       tell = marks-tell job turns;
       heap_numbers = heap-numbers-never-fall job turns;
+      typed = worlds-are-typed job turns;
     }
