@@ -10,7 +10,7 @@ use Rattle.kt_types.specs.declared.kinds.Ty.TheVariants as ty
 use Rattle.kt_mem.specs.declared.memory.Name.{Name}
 use Rattle.kt_mem.specs.declared.memory.Name.TheVariants.{Glob, Lit, Heap}
 use Rattle.kt_mem.specs.Memory.{Memory, Object, no_objects, put}
-use Rattle.kt_flat.specs.Heap.{with_object}
+use Rattle.kt_heap.specs.Heap.{with_object}
 use Rattle.kt_tree.specs.declared.global.GlobalDecl.{GlobalDecl}
 use Rattle.kt_tree.specs.Version.{Program, IsProgram, IsGlobal}
 use Rattle.kt_lone.specs.Update.{char_cell, first_memory, first_object, global_object, literal_object}

@@ -6,7 +6,7 @@ use Rattle.kt_mem.specs.declared.thread.Mode.TheVariants.{Normal}
 use Rattle.kt_code.specs.Settling as settling
 use Rattle.kt_code.specs.declared.private.Head.{Head}
 use Rattle.kt_code.specs.declared.private.Private.{Private}
-use Rattle.kt_flat.specs.Heap as heap
+use Rattle.kt_heap.specs.Heap as heap
 use Rattle.kt_pair.specs.Pair.{Pair}
 use Rattle.kt_lone.specs.declared.mark.Phase.TheVariants.{Run}
 use Rattle.kt_lone.specs.Job.{Job, version_at}

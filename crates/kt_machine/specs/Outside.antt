@@ -13,7 +13,7 @@ use Rattle.kt_mem.specs.declared.steps.Reply.{Reply}
 use Rattle.kt_mem.specs.declared.steps.Reply.TheVariants.{Done, Got, Trapped}
 use Rattle.kt_mem.specs.declared.steps.Trap.{Trap}
 use Rattle.kt_mem.specs.Memory.{Memory, Object}
-use Rattle.kt_flat.specs.Heap as heap
+use Rattle.kt_heap.specs.Heap as heap
 use Rattle.kt_meaning.specs.Effects as plain
 use Rattle.kt_machine.specs.declared.effects.Outcome.{Outcome}
 use Rattle.kt_machine.specs.declared.effects.Outcome.TheVariants as outcome

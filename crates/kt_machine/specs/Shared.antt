@@ -1,7 +1,7 @@
 -- What threads share, as the machine keeps it.
 use Rattle.std.specs.Prelude.{ℕ, List, Option}
 use Rattle.kt_mem.specs.declared.memory.Value.{Value}
-use Rattle.kt_flat.specs.Heap.{memory}
+use Rattle.kt_heap.specs.Heap.{memory}
 use Rattle.kt_lone.specs.declared.mark.End.{End}
 use Rattle.kt_lone.specs.declared.mark.Mark.{Mark}
 use Rattle.kt_lone.specs.declared.mark.Phase.{Phase}

@@ -1,14 +1,14 @@
 //! Allocations.
 ghost use Rattle.std.specs.Prelude.{◌≡◌, ◌≤◌, pos, length, true, Bool, IfOk, IfSome, List, OnOk, ℕ};
 ghost use Rattle.std.specs.Option.{is_some};
-ghost use Rattle.kt_flat.specs.Heap.{memory};
+ghost use Rattle.kt_heap.specs.Heap.{memory};
 ghost use Rattle.kt_meaning.specs.Effects as plain;
 ghost use Rattle.kt_mem.specs.Memory as mem;
 ghost use Rattle.kt_types.specs.Layout.{cells, layout};
 ghost use Rattle.kt_types.specs.declared.kinds.Ty.{Ty as CellType};
 ghost use Rattle.kt_machine.specs.Outside.{KeepsLiterals};
 
-use kt_flat::{AllocFault, Heap};
+use kt_heap::{AllocFault, Heap};
 use kt_mem::{Name, Reply, Trap, Value};
 use kt_types::{Ty, TypeTable};
 use std::alloc::{AllocError, Global};

@@ -1,11 +1,11 @@
 //! The heap with which a version begins.
 ghost use Rattle.std.specs.Prelude.{◌≡◌, [], IfOk, OnOk};
-ghost use Rattle.kt_flat.specs.Heap.{memory, given};
+ghost use Rattle.kt_heap.specs.Heap.{memory, given};
 ghost use Rattle.kt_lone.specs.Update.{first_memory};
 ghost use Rattle.kt_machine.specs.Outside.{HasCharLiterals};
 
 use crate::first_objects::{global_object, literal_object};
-use kt_flat::Heap;
+use kt_heap::Heap;
 use kt_tree::{Version, version_law};
 use std::alloc::{AllocError, Global};
 

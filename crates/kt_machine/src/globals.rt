@@ -1,9 +1,9 @@
 //! What an update carries over by name: the values of globals, and points.
 ghost use Rattle.std.specs.Prelude.{◌≡◌, ◌<◌, ◌≤◌, length, IfOk, IfSome};
-ghost use Rattle.kt_flat.specs.Heap.{memory, given};
+ghost use Rattle.kt_heap.specs.Heap.{memory, given};
 ghost use Rattle.kt_lone.specs.Update as plain;
 
-use kt_flat::Heap;
+use kt_heap::Heap;
 use kt_mem::{Name, Value};
 use kt_tree::{GlobalDecl, Version, version_law};
 use kt_types::Ty;

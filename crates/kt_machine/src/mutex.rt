@@ -1,10 +1,10 @@
 //! What acts do to the mutexes of a heap.
 ghost use Rattle.std.specs.Prelude.{◌≡◌, IsOk, OnErr};
-ghost use Rattle.kt_flat.specs.Heap.{memory};
+ghost use Rattle.kt_heap.specs.Heap.{memory};
 ghost use Rattle.kt_mem.specs.Memory.{init_mutex, initialised, lock, locked, unlock, unlocked, value_at, waits, written};
 ghost use Rattle.kt_machine.specs.Outside.{left_by, HasCharLiterals, KeepsLiterals};
 
-use kt_flat::Heap;
+use kt_heap::Heap;
 use kt_mem::{Trap, Value};
 use kt_types::Ty;
 

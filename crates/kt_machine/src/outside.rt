@@ -7,7 +7,7 @@ use crate::effects::Outcome;
 use crate::globals::place;
 use crate::mutex::{init, lock, unlock, waits};
 use crate::print::print;
-use kt_flat::Heap;
+use kt_heap::Heap;
 use kt_mem::{Piece, Reply, Trap, Value};
 use kt_types::{Ty, TypeTable};
 use std::alloc::{AllocError, Global};
@@ -24,7 +24,7 @@ pub struct Outside {
 
 impl Model for Outside {
     ghost use Rattle.std.specs.Prelude.{◌≤◌, drop, length};
-    ghost use Rattle.kt_flat.specs.Heap.{memory};
+    ghost use Rattle.kt_heap.specs.Heap.{memory};
     ghost use Rattle.kt_machine.specs.Outside.{Outside, HasCharLiterals};
 
     ghost Value = { Outside };
@@ -37,7 +37,7 @@ impl Model for Outside {
 impl Outside {
     ghost use Rattle.std.specs.Option.{is_some};
     ghost use Rattle.std.specs.Prelude.{◌≡◌, ◌≢◌, ◌≤◌, [], true, length, IfOk, if◌then◌else◌};
-    ghost use Rattle.kt_flat.specs.Heap.{memory};
+    ghost use Rattle.kt_heap.specs.Heap.{memory};
     ghost use Rattle.kt_meaning.specs.Effects as plain;
     ghost use Rattle.kt_mem.specs.Memory as mem;
     ghost use Rattle.kt_types.specs.Layout.{cells, layout};

@@ -1,15 +1,15 @@
 //! Output.
 ghost use Rattle.std.specs.Prelude.{◌≡◌, [], ◌∷◌, drop, IfOk, List, OnOk};
 ghost use Rattle.std.specs.Option.{option_copied, option_map};
-ghost use Rattle.kt_flat.specs.Heap.{memory};
-ghost use Rattle.kt_flat.specs.Objects.{shown};
+ghost use Rattle.kt_heap.specs.Heap.{memory};
+ghost use Rattle.kt_heap.specs.Objects.{shown};
 ghost use Rattle.kt_mem.specs.Memory.{Cell as CellSpec};
 ghost use Rattle.kt_meaning.specs.Effects as plain;
 ghost use Rattle.kt_meaning.specs.Requests.{byte_of};
 ghost use Rattle.kt_machine.specs.Printing.{text_from, with_text, IsPut};
 
 use itoa::Buffer;
-use kt_flat::{Heap, Obj};
+use kt_heap::{Heap, Obj};
 use kt_mem::{Cell, Name, Piece, Reply, Trap, Value};
 use kt_types::Ty;
 use std::alloc::AllocError;

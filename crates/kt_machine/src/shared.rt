@@ -6,7 +6,7 @@ ghost use Rattle.kt_lone.specs.Plain.{job_of};
 
 use crate::effects::{Outcome, effect};
 use crate::outside::Outside;
-use kt_flat::Heap;
+use kt_heap::Heap;
 use kt_lone::job::Job;
 use kt_lone::mark::{Closed, End, Mark, Phase};
 use kt_mem::{Act, Value};
@@ -51,7 +51,7 @@ impl Model for Shared {
 
 impl Shared {
     ghost use Rattle.std.specs.Prelude.{◌≡◌, ◌+◌, ◌<◌, ◌≤◌, ◌^◌, [], ◌∷◌, ◌++◌, IfOk, None, OnOk, Some, drop, length, vec_len};
-    ghost use Rattle.kt_flat.specs.Heap.{memory};
+    ghost use Rattle.kt_heap.specs.Heap.{memory};
     ghost use Rattle.kt_meaning.specs.Effects as plain;
     ghost use Rattle.kt_machine.specs.Outside.{outcome_of, shown, HasCharLiterals, IsComplete};
     ghost use Rattle.kt_machine.specs.Shared.{shared_of};

@@ -2,12 +2,12 @@
 
 ghost use Rattle.std.specs.Prelude.{◌≡◌};
 ghost use Rattle.kt_mem.specs.Memory.{waits};
-ghost use Rattle.kt_flat.specs.Heap.{memory};
+ghost use Rattle.kt_heap.specs.Heap.{memory};
 ghost use Rattle.kt_machine.specs.Acts.{waits_at};
 
 use crate::machine::{Machine, Standing};
 use kt_code::Head;
-use kt_flat::Heap;
+use kt_heap::Heap;
 use kt_lone::job::Job;
 use kt_lone::mark::Phase;
 use kt_mem::{Act, Mode, Value};
@@ -19,7 +19,7 @@ impl Machine {
     ghost use Rattle.std.specs.Prelude.{◌≡◌, ◌<◌, ◌≤◌, length, OnOk};
     ghost use Rattle.kt_lone.specs.Plain.{job_of};
     ghost use Rattle.kt_lone.specs.Turn as plain_turn;
-    ghost use Rattle.kt_flat.specs.Heap.{memory};
+    ghost use Rattle.kt_heap.specs.Heap.{memory};
     ghost use Rattle.kt_machine.specs.Acts.{KeepsThread, step_of};
     ghost use Rattle.kt_machine.specs.Engine.{code_engine, thread_of, world_of, AreCodesOf, IsSettled};
     ghost use Rattle.kt_machine.specs.Shared.{shared_of};

@@ -1,6 +1,6 @@
 use Rattle.std.proofs.Common.{◌≡◌, ℕ, [], refl, sym, ◌∙◌, ap, subst}
 use Rattle.kt_mem.specs.Memory.{Memory}
-use Rattle.kt_flat.specs.Heap.{memory}
+use Rattle.kt_heap.specs.Heap.{memory}
 use Rattle.kt_lone.specs.Update.{first_memory}
 use Rattle.kt_machine.specs.Outside.{HasCharLiterals}
 use Rattle.kt_machine.proofs.FirstMemory.{nothing-first, first_memory-chars}

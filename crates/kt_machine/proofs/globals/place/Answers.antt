@@ -1,6 +1,6 @@
 use Rattle.std.proofs.Common.{None, get_or, ◌∙◌, ap}
 use Rattle.kt_mem.specs.Memory.{Memory}
-use Rattle.kt_flat.specs.Heap.{memory}
+use Rattle.kt_heap.specs.Heap.{memory}
 use Rattle.kt_lone.specs.Update.{placed_one}
 use Rattle.kt_machine.proofs.Placed.{placed-next}
 use Rattle.kt_machine.proofs.globals.place.Goals as goal

@@ -1,5 +1,5 @@
 use Rattle.std.proofs.Common.{◌≡◌, take}
-use Rattle.kt_flat.specs.Heap.{memory, given}
+use Rattle.kt_heap.specs.Heap.{memory, given}
 use Rattle.kt_lone.specs.Update.{placed}
 use Rattle.kt_machine.proofs.globals.place.Given as goal
 

@@ -1,5 +1,5 @@
 use Rattle.std.proofs.Common.{sym, ap, ◌∙◌, slice_get}
-use Rattle.kt_flat.specs.Heap.{State, memory}
+use Rattle.kt_heap.specs.Heap.{State, memory}
 use Rattle.kt_lone.specs.Turn.{has_ended}
 use Rattle.kt_machine.specs.Acts.{waits_at}
 use Rattle.kt_machine.specs.Engine.{standing_of}

@@ -1,4 +1,4 @@
-use Rattle.kt_flat.specs.Heap.{memory}
+use Rattle.kt_heap.specs.Heap.{memory}
 use Rattle.kt_machine.proofs.Memory.{kept-HasCharLiterals, placed-literals}
 use Rattle.kt_machine.proofs.outside.Outside.place.Goals as goal
 

@@ -1,6 +1,6 @@
 use Rattle.std.proofs.Common.{◌≡◌, drop, subst}
 use Rattle.std.proofs.lemmas.Result.{IfOk-weaker}
-use Rattle.kt_flat.specs.Heap.{memory}
+use Rattle.kt_heap.specs.Heap.{memory}
 use Rattle.kt_mem.specs.declared.steps.Reply.{Reply}
 use Rattle.kt_meaning.specs.Effects.{Replies, Shared, pieces_text, writes}
 use Rattle.kt_machine.specs.Outside.{Outside, shown}

@@ -1,4 +1,4 @@
-use Rattle.kt_flat.specs.Heap.{memory}
+use Rattle.kt_heap.specs.Heap.{memory}
 use Rattle.kt_mem.specs.Memory.{store}
 use Rattle.kt_machine.proofs.Memory.{answer-left, answer-literals, kept-HasCharLiterals, store-literals}
 use Rattle.kt_machine.proofs.outside.Outside.store.Goals as goal
