@@ -16,18 +16,23 @@ use Rattle.kt_pair.specs.Pair.{Pair}
 use Rattle.kt_lone.specs.Turn.{elsewhere, ends}
 use Rattle.kt_lone.specs.World.{Engine, Thread, World}
 use Rattle.kt_machine.specs.declared.machine.Machine.{Machine}
-use Rattle.kt_machine.specs.Engine.{code_step}
+use Rattle.kt_machine.specs.ByNumber.{private_by}
+use Rattle.kt_machine.specs.Engine.{code_step, pairs_of}
 
--- what a machine's thread does next
+-- what a machine's thread does next, by address and by heap number
+abbrev pub own_step : List Pair → Machine → Step Private
+own_step codes m = code_step (slice_get codes m.shared.version) m.private
+
 abbrev pub step_of : List Pair → Machine → Step Private
-step_of codes m = code_step (slice_get codes m.shared.version) m.private
+step_of codes m = code_step (slice_get codes m.shared.version) (private_by (pairs_of m) m.private)
 
--- the thread and the version in force stay
+-- the thread, the version in force, memory, input and output stay
 pub record KeepsThread (m n : Machine) : Type 0 where
   pub private : n.private ≡ m.private
   pub head : n.head ≡ m.head
   pub standing : n.standing ≡ m.standing
   pub version : n.shared.version ≡ m.shared.version
+  pub outside : n.shared.outside ≡ m.shared.outside
 
 -- the version in force and the turns so far stay
 pub record KeepsPlace (m n : Machine) : Type 0 where
