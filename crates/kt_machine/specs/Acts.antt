@@ -13,11 +13,12 @@ use Rattle.kt_code.specs.declared.private.Head.{Head}
 use Rattle.kt_code.specs.declared.private.Head.TheVariants as head
 use Rattle.kt_code.specs.declared.private.Private.{Private}
 use Rattle.kt_pair.specs.Pair.{Pair}
-use Rattle.kt_lone.specs.Turn.{elsewhere, ends}
+use Rattle.kt_lone.specs.Job.{Job}
+use Rattle.kt_lone.specs.Turn.{acted, after_act, counted, elsewhere, ends}
 use Rattle.kt_lone.specs.World.{Engine, Thread, World}
 use Rattle.kt_machine.specs.declared.machine.Machine.{Machine}
 use Rattle.kt_machine.specs.ByNumber.{private_by}
-use Rattle.kt_machine.specs.Engine.{code_step, pairs_of}
+use Rattle.kt_machine.specs.Engine.{code_step, pairs_of, without_ended}
 
 -- what a machine's thread does next, by address and by heap number
 abbrev pub own_step : List Pair → Machine → Step Private
@@ -49,6 +50,10 @@ MayReply s (Trapped t) = Unit {0}
 abbrev pub outcome_at : Table → Head → plain.Shared → plain.Outcome
 outcome_at types (head.Act a) s = plain.effect types 0 a s
 outcome_at types (head.Trap t) s = plain.Replies (Trapped t) s
+
+-- a turn of thread 0, where nothing is kept of a thread that has ended
+abbrev pub turned : Engine Private → Job → World Private → World Private
+turned e job w = after_act e job (counted (without_ended (acted e job w 0)))
 
 -- what it does elsewhere than in memory, input and output
 abbrev pub elsewhere_at : Engine Private → World Private → Thread Private → Head → World Private

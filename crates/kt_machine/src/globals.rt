@@ -1,9 +1,6 @@
 //! What an update carries over by name: the values of globals, and points.
 ghost use Rattle.std.specs.Prelude.{◌≡◌, ◌<◌, ◌≤◌, length, IfOk, IfSome};
-ghost use Rattle.kt_heap.specs.ByNumber.{by_number};
 ghost use Rattle.kt_heap.specs.Heap.{memory, given};
-ghost use Rattle.kt_meaning.specs.Laws.{IsTyped};
-ghost use Rattle.kt_machine.specs.Outside.{AreNumbers};
 ghost use Rattle.kt_lone.specs.Update as plain;
 
 use kt_heap::Heap;
@@ -22,13 +19,10 @@ pub fn kept_values(
     heap: &Heap,
     new: &Version,
 ) -> Result<Vec<Option<Value>>, AllocError>
-    requires { IsTyped (by_number (given heap.now) (memory heap.now)) }
-    ensures values { IfOk result (λ kept. kept.items ≡ plain.kept_values old.now (by_number (given heap.now) (memory heap.now)) new.now) }
-    ensures numbers { IfOk result (λ kept. AreNumbers kept.items) }
+    ensures values { IfOk result (λ kept. kept.items ≡ plain.kept_values old.now (memory heap.now) new.now) }
     ensures few { IfOk result (λ kept. length kept.items ≤ 4294967296) }
 {
     version_law(new);
-    heap.law();
     new.globals()
         .iter()
         .map(|global| kept_value(old, heap, global))
