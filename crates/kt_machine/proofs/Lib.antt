@@ -7,6 +7,8 @@ pub mod Heads
 pub mod Lists
 pub mod MainEntry
 pub mod Memory
+pub mod Names
+pub mod Numbered
 pub mod Placed
 pub mod Printing
 pub mod RunLemmas
@@ -17,6 +19,7 @@ pub mod SameThreads
 pub mod SameTurns
 pub mod SameUpdates
 pub mod Starting
+pub mod Threads
 pub mod Trying
 pub mod Turning
 pub mod UnderWay

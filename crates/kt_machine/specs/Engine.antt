@@ -98,8 +98,11 @@ left_to world.Live x = x
 left_to world.Parked x = x
 left_to world.Ended x = no_frames x.version x.mode
 
+abbrev pub left_thread : Thread Private → Thread Private
+left_thread th = record { state = left_to th.standing th.state; standing = th.standing }
+
 abbrev pub without_ended : World Private → World Private
-without_ended w = record w { threads = map (λ th. record th { state = left_to th.standing th.state }) w.threads }
+without_ended w = record w { threads = map left_thread w.threads }
 
 -- the thread has taken its quiet steps and stands at this head, and its state fits its code
 pub record StandsAt (c : Option Pair) (x : Private) (h : Head) : Type 0 where
