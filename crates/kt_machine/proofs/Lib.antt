@@ -1,5 +1,6 @@
 pub mod Acting
 pub mod Allocations
+pub mod ByAddress
 pub mod Closings
 pub mod Codes
 pub mod FirstMemory

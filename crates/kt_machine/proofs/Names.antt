@@ -1,6 +1,7 @@
 -- Addresses that were given out, and their heap numbers: the words of the heap and those of renaming say the same.
-use Rattle.std.specs.Prelude.{◌≡◌, ℕ, zero, suc, ◌<◌, ◌==◌, List, [], ◌∷◌, ◌++◌, length, if◌then◌else◌, slice_index_or, refl}
+use Rattle.std.specs.Prelude.{◌≡◌, ℕ, zero, suc, ◌<◌, ◌==◌, Bool, true, false, List, [], ◌∷◌, ◌++◌, length, if◌then◌else◌, slice_index_or, refl}
 use Rattle.std.proofs.Common.{arith, sym, ap, subst, ◌∙◌, inl, inr}
+use Rattle.std.proofs.lemmas.Bool.{eqb-true, eq-eqb}
 use mathlib.Core.Path.{fun_ext}
 use Rattle.kt_mem.specs.declared.memory.Name.{Name}
 use Rattle.kt_mem.specs.declared.memory.Name.TheVariants.{Glob, Lit, Heap}
@@ -100,7 +101,16 @@ pushed-grows old new a n fresh e =
       given = λ b h. old-more old ((a, n) ∷ []) b h;
     })
 
--- the last one is given out too
+-- the last one has its number
+pub number-last : (ps : Pairs) (a n : ℕ) → heap.IsNew ps a → number_of (ps ++ (a, n) ∷ []) a ≡ n
+number-last [] a n fresh = ap (λ (b : Bool). if b then n else a) (eq-eqb a a refl)
+number-last (p ∷ ps) a n fresh = by_test (p.0 == a) refl
+  where
+    by_test : (b : Bool) → (p.0 == a) ≡ b → (if b then p.1 else number_of (ps ++ (a, n) ∷ []) a) ≡ n
+    by_test true e = absurd (fresh p.1 (subst (λ (x : ℕ). Paired (p ∷ ps) x p.1) (eqb-true p.0 a e) (paired_first p ps)))
+    by_test false e = number-last ps a n (λ k there. fresh k (paired_rest p ps a k there))
+
+-- and was given out too
 pub pushed-old : (ps : Pairs) (a n : ℕ) → IsOld (ps ++ (a, n) ∷ []) a
 pushed-old [] a n = inl refl
 pushed-old (p ∷ ps) a n = inr (pushed-old ps a n)

@@ -92,7 +92,6 @@ impl Outside {
         ensures placed { shown self.new ≡ record (shown self.old) { memory = placed kept.now (shown self.old).memory } }
         ensures pairs { pairs_in self.new ≡ pairs_in self.old }
     {
-        self.heap.law();
         place(&mut self.heap, kept);
     }
 
