@@ -1,5 +1,5 @@
 -- What acts on memory do by address is what they do by heap number.
-use Rattle.std.specs.Prelude.{◌≡◌, ℕ, zero, suc, ◌+◌, List, [], ◌∷◌, map, drop, Option, None, Some, Result, Ok, Err, OnErr, if◌then◌else◌, refl}
+use Rattle.std.specs.Prelude.{◌≡◌, ℕ, zero, suc, ◌+◌, List, [], ◌∷◌, map, drop, Option, None, Some, Result, Ok, Err, IfErr, IfOk, OnOk, OnErr, if◌then◌else◌, refl}
 use Rattle.std.specs.Option.{option_map}
 use Rattle.std.proofs.Common.{get_or, sym, ap, subst, ◌∙◌}
 use Rattle.std.proofs.lemmas.List.{drop-map}
@@ -27,7 +27,7 @@ use Rattle.kt_exec.specs.Renaming.{IsOld, NameIn, ValueIn, PieceIn, PiecesIn, Re
 use Rattle.kt_lone.specs.Update.{or_same, placed_one, placed_from}
 use Rattle.kt_machine.specs.ByNumber.{reply_by}
 use Rattle.kt_machine.specs.Outside.{Outside, IsNumber, AreNumbers, pairs_in, shown, left_by, done, given}
-use Rattle.kt_machine.proofs.Names.{old-given, given-old, value-by, old-paired}
+use Rattle.kt_machine.proofs.Names.{old-given, given-old, value-among, value-by, old-paired}
 
 -- ---- replies without names
 
@@ -180,6 +180,28 @@ module _ (ps : Pairs) (m : Memory) (pairing : IsPairing ps m) where
       ap (λ (r : Result (List ℕ) Trap). and_rest r (pieces_text (by_number ps m) (rename_pieces (number_of ps) xs))) (piece-by x h.0)
       ∙ ap (and_rest (piece_text m x)) (pieces-by xs h.1)
 
+module _ {E : Type 0} where
+  -- a reply without a name is among all names
+  pub plain-in : (P : ℕ → Type 0) (answer : Result Reply E) → IfOk answer (λ r. ReplyIn (λ a. ⊥) r) → IfOk answer (λ r. ReplyIn P r)
+  plain-in P (Err e) h = tt
+  plain-in P (Ok Done) h = tt
+  plain-in P (Ok (Trapped t)) h = tt
+  plain-in P (Ok (Got v)) h = value-among (λ a none. absurd none) v h
+
+  -- what is written is the same by heap number
+  pub pieces-written : (old o : Outside) → old ≡ o → (output : List ℕ) (xs : List Piece) → IsPairing (heap.given old.heap) (heap.memory old.heap) →
+      PiecesIn (IsOld (pairs_in old)) xs → (answer : Result Reply E) →
+      IfOk answer (λ r. (s : Shared) → writes (record s { output = old.output }) (pieces_text (heap.memory old.heap) xs) ≡ Replies r (record s { output = output })) →
+      IfOk answer (λ r. ReplyIn (λ a. ⊥) r) →
+      IfOk answer (λ r. writes (shown o) (pieces_text (shown o).memory (rename_pieces (number_of (pairs_in o)) xs))
+      ≡ Replies (reply_by (pairs_in old) r) (shown (record old { output = output })))
+  pieces-written old o same output xs pairing names (Err e) h plain = tt
+  pieces-written old o same output xs pairing names (Ok r) h plain =
+      subst (λ (x : Outside). writes (shown x) (pieces_text (shown x).memory (rename_pieces (number_of (pairs_in x)) xs))
+      ≡ Replies (reply_by (pairs_in old) r) (shown (record old { output = output }))) same
+      (ap (writes (shown old)) (pieces-by (pairs_in old) (heap.memory old.heap) pairing xs names) ∙ h (shown old)
+      ∙ ap (λ (r : Reply). Replies r (shown (record old { output = output }))) (sym (plain-reply (pairs_in old) r plain)))
+
 -- ---- kept values
 
 pub number-at : (kept : List (Option Value)) (i : ℕ) → AreNumbers kept → IsNumber (get_or kept i None)
@@ -203,6 +225,23 @@ placed_one-by ps m pairing i (Some (Ptr n k)) h = absurd h
 placed_one-by ps m pairing i (Some Free) h = absurd h
 placed_one-by ps m pairing i (Some (Held t)) h = absurd h
 placed_one-by ps m pairing i (Some Undef) h = absurd h
+
+pub number-some : (k : Option Value) (v : Value) → k ≡ Some v → IsNumber k → IsNumber (Some v)
+number-some k v e h = subst IsNumber e h
+
+or-left : {A : Type 0} (m new : Memory) (here : Result Memory Trap) (answer : Result A Trap) → OnOk answer (here ≡ Ok new) → IfErr answer (λ t. here ≡ Err t) →
+    OnErr answer (new ≡ m) → new ≡ or_same m here
+or-left m new here (Ok x) made failed kept = sym (ap (or_same m) made)
+or-left m new here (Err t) made failed kept = kept ∙ sym (ap (or_same m) failed)
+
+-- a store of a kept value, which may change nothing
+pub stored-one : {A : Type 0} (ps qs : Pairs) (m new : Memory) (i : ℕ) (v : Value) (answer : Result A Trap) → IsPairing ps m → IsNumber (Some v) →
+    OnOk answer (store m (Ptr (Glob i) 0) ty.Int v ≡ Ok new) → IfErr answer (λ t. store m (Ptr (Glob i) 0) ty.Int v ≡ Err t) → OnErr answer (new ≡ m) →
+    qs ≡ ps → by_number qs new ≡ placed_one i (Some v) (by_number ps m)
+stored-one ps qs m new i v answer pairing number made failed kept pairs =
+    ap (λ (rs : Pairs). by_number rs new) pairs
+    ∙ ap (by_number ps) (or-left m new (store m (Ptr (Glob i) 0) ty.Int v) answer made failed kept)
+    ∙ placed_one-by ps m pairing i (Some v) number
 
 or-holds : (ps : Pairs) (m : Memory) (r : Result Memory Trap) → HoldsGiven ps m → ((n : Memory) → r ≡ Ok n → HoldsGiven ps n) → HoldsGiven ps (or_same m r)
 or-holds ps m (Ok n) h keeps = keeps n refl

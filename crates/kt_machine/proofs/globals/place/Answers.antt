@@ -1,9 +1,15 @@
-use Rattle.std.proofs.Common.{None, get_or, ◌∙◌, ap}
+use Rattle.std.proofs.Common.{◌≡◌, None, Option, get_or, ◌∙◌, ap, subst}
+use Rattle.kt_mem.specs.declared.memory.Value.{Value}
 use Rattle.kt_mem.specs.Memory.{Memory}
-use Rattle.kt_heap.specs.Heap.{memory}
+use Rattle.kt_heap.specs.ByNumber.{by_number}
+use Rattle.kt_heap.specs.Heap.{memory, given}
 use Rattle.kt_lone.specs.Update.{placed_one}
+use Rattle.kt_machine.proofs.ByAddress.{number-at}
 use Rattle.kt_machine.proofs.Placed.{placed-next}
 use Rattle.kt_machine.proofs.globals.place.Goals as goal
+
+pub place_one-requires : goal.place_one-requires
+place_one-requires c = number-at c.args.kept.now c.loop-i.i c.requires.numbers
 
 pub loop-i-preserved : goal.loop-i-preserved
 loop-i-preserved c =
@@ -13,5 +19,8 @@ loop-i-preserved c =
       memory = c.place_one.ensures.placed
           ∙ ap (λ (m : Memory). placed_one i (get_or kept i None) m) c.loop-i.invariant.memory
           ∙ placed-next kept i (memory c.args.heap.now) c.loop-i-test.true;
+      numbered = c.place_one.ensures.numbered
+          ∙ ap (λ (m : Memory). placed_one i (get_or kept i None) m) c.loop-i.invariant.numbered
+          ∙ placed-next kept i (by_number (given c.args.heap.now) (memory c.args.heap.now)) c.loop-i-test.true;
       given = c.place_one.ensures.given ∙ c.loop-i.invariant.given;
     }
