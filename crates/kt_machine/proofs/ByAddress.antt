@@ -68,7 +68,10 @@ pub acts-leave : {A : Type 0} (by : Pairs → Memory → Value → Result Memory
     OnErr answer (heap.memory h ≡ heap.memory old.heap) → heap.given h ≡ heap.given old.heap → r ≡ done answer →
     leaves (shown o) (by (pairs_in o) (shown o).memory (rename_value (number_of (pairs_in o)) p))
     ≡ Replies (reply_by (heap.given h) r) (shown (record old { heap = h }))
-acts-leave {A} by act law old o same h p answer r pairing names left kept pairs is =
+acts-leave by act law old o same h p answer r pairing names left kept pairs is =
+    let ps : Pairs = heap.given old.heap in
+    let m : Memory = heap.memory old.heap in
+    let new : Memory = heap.memory h in
     subst (λ (x : Outside). leaves (shown x) (by (pairs_in x) (shown x).memory (rename_value (number_of (pairs_in x)) p))
     ≡ Replies (reply_by (heap.given h) r) (shown (record old { heap = h }))) same
     (ap (λ (v : Value). leaves (shown old) (by ps (shown old).memory v)) (value-by ps p)
@@ -76,15 +79,6 @@ acts-leave {A} by act law old o same h p answer r pairing names left kept pairs 
     (law ps m p pairing (old-given ps p (subst (λ (x : Outside). ValueIn (IsOld (pairs_in x)) p) (sym same) names))) left kept
     ∙ ap (λ (qs : Pairs). Replies (reply_by qs (done answer)) (record (shown old) { memory = by_number qs new })) (sym pairs)
     ∙ ap (λ (r : Reply). Replies (reply_by (heap.given h) r) (record (shown old) { memory = by_number (heap.given h) new })) (sym is))
-  where
-    abbrev ps : Pairs
-    ps = heap.given old.heap
-
-    abbrev m : Memory
-    m = heap.memory old.heap
-
-    abbrev new : Memory
-    new = heap.memory h
 
 -- memory goes on to hold only what was given out
 pub holds-after : {A : Type 0} (ps qs : Pairs) (m new : Memory) (here : Result Memory Trap) (answer : Result A Trap) →
@@ -105,18 +99,14 @@ pub load-reads : (old o : Outside) → old ≡ o → (p : Value) (t : Ty) (answe
     IsPairing (heap.given old.heap) (heap.memory old.heap) → ValueIn (IsOld (pairs_in o)) p → answer ≡ load (heap.memory old.heap) p t → r ≡ given answer →
     reads (shown o) (load (shown o).memory (rename_value (number_of (pairs_in o)) p) t) ≡ Replies (reply_by (pairs_in o) r) (shown o)
 load-reads old o same p t answer r pairing names loaded is =
+    let ps : Pairs = heap.given old.heap in
+    let m : Memory = heap.memory old.heap in
     subst (λ (x : Outside). reads (shown x) (load (shown x).memory (rename_value (number_of (pairs_in x)) p) t) ≡ Replies (reply_by (pairs_in x) r) (shown x)) same
     (ap (λ (v : Value). reads (shown old) (load (shown old).memory v t)) (value-by ps p)
     ∙ read-by (shown old) ps (load (shown old).memory (value_by_number ps p) t) (load m p t)
     (loads_by_number ps m p t pairing (old-given ps p (subst (λ (x : Outside). ValueIn (IsOld (pairs_in x)) p) (sym same) names)))
     ∙ ap (λ (a : Result Value Trap). Replies (reply_by ps (given a)) (shown old)) (sym loaded)
     ∙ ap (λ (r : Reply). Replies (reply_by ps r) (shown old)) (sym is))
-  where
-    abbrev ps : Pairs
-    ps = heap.given old.heap
-
-    abbrev m : Memory
-    m = heap.memory old.heap
 
 pub load-names : (ps : Pairs) (m : Memory) (p : Value) (t : Ty) (answer : Result Value Trap) (r : Reply) → HoldsGiven ps m →
     answer ≡ load m p t → r ≡ given answer → ReplyIn (IsOld ps) r

@@ -35,13 +35,14 @@ one-to-one [] h = tt
 one-to-one (p ∷ ps) h =
     (λ old. let there = old-paired ps p.0 old in h.0 there.0 there.1, λ new. let there = new-paired ps p.1 new in h.1 there.0 there.1, one-to-one ps h.2)
 
+old-cases : (p : ℕ × ℕ) (ps : Pairs) (a n k : ℕ) → k < length (p ∷ ps) → slice_index_or (p ∷ ps) k (a, n) ≡ (a, n) → (Paired ps a n → IsOld ps a) →
+    IsOld (p ∷ ps) a
+old-cases p ps a n zero below is rest = inl (ap (λ (x : ℕ × ℕ). x.0) is)
+old-cases p ps a n (suc k) below is rest = inr (rest (k, omega arith, is))
+
 pub paired-old : (ps : Pairs) (a n : ℕ) → Paired ps a n → IsOld ps a
 paired-old [] a n h = let below = h.1 in absurd (omega arith)
-paired-old (p ∷ ps) a n h = by_place h.0 h.1 h.2
-  where
-    by_place : (k : ℕ) → k < length (p ∷ ps) → slice_index_or (p ∷ ps) k (a, n) ≡ (a, n) → IsOld (p ∷ ps) a
-    by_place zero below is = inl (ap (λ (x : ℕ × ℕ). x.0) is)
-    by_place (suc k) below is = inr (paired-old ps a n (k, omega arith, is))
+paired-old (p ∷ ps) a n h = old-cases p ps a n h.0 h.1 h.2 (paired-old ps a n)
 
 -- ---- values
 
@@ -102,13 +103,15 @@ pushed-grows old new a n fresh e =
     })
 
 -- the last one has its number
+last-cases : (p : ℕ × ℕ) (ps : Pairs) (a n x : ℕ) (b : Bool) → (p.0 == a) ≡ b → heap.IsNew (p ∷ ps) a → x ≡ n → (if b then p.1 else x) ≡ n
+last-cases p ps a n x true e fresh rest = absurd (fresh p.1 (subst (λ (y : ℕ). Paired (p ∷ ps) y p.1) (eqb-true p.0 a e) (paired_first p ps)))
+last-cases p ps a n x false e fresh rest = rest
+
 pub number-last : (ps : Pairs) (a n : ℕ) → heap.IsNew ps a → number_of (ps ++ (a, n) ∷ []) a ≡ n
 number-last [] a n fresh = ap (λ (b : Bool). if b then n else a) (eq-eqb a a refl)
-number-last (p ∷ ps) a n fresh = by_test (p.0 == a) refl
-  where
-    by_test : (b : Bool) → (p.0 == a) ≡ b → (if b then p.1 else number_of (ps ++ (a, n) ∷ []) a) ≡ n
-    by_test true e = absurd (fresh p.1 (subst (λ (x : ℕ). Paired (p ∷ ps) x p.1) (eqb-true p.0 a e) (paired_first p ps)))
-    by_test false e = number-last ps a n (λ k there. fresh k (paired_rest p ps a k there))
+number-last (p ∷ ps) a n fresh =
+    last-cases p ps a n (number_of (ps ++ (a, n) ∷ []) a) (p.0 == a) refl fresh
+    (number-last ps a n (λ k there. fresh k (paired_rest p ps a k there)))
 
 -- and was given out too
 pub pushed-old : (ps : Pairs) (a n : ℕ) → IsOld (ps ++ (a, n) ∷ []) a
