@@ -1,5 +1,5 @@
 -- What acts on memory do by address is what they do by heap number.
-use Rattle.std.specs.Prelude.{◌≡◌, ℕ, zero, suc, ◌+◌, List, [], ◌∷◌, map, drop, Option, None, Some, Result, Ok, Err, IfErr, IfOk, OnOk, OnErr, if◌then◌else◌, refl}
+use Rattle.std.specs.Prelude.{◌≡◌, ℕ, zero, suc, ◌+◌, List, [], ◌∷◌, map, drop, Option, None, Some, Bool, true, false, Result, Ok, Err, IfErr, IfOk, OnOk, OnErr, if◌then◌else◌, refl}
 use Rattle.std.specs.Option.{option_map}
 use Rattle.std.proofs.Common.{get_or, sym, ap, subst, ◌∙◌}
 use Rattle.std.proofs.lemmas.List.{drop-map}
@@ -123,6 +123,19 @@ pub waits-by : (o : Outside) (thread : ℕ) (p : Value) → IsPairing (heap.give
 waits-by o thread p pairing names =
     ap (waits (shown o).memory thread) (value-by (pairs_in o) p)
     ∙ waits_by_number (pairs_in o) (heap.memory o.heap) thread p pairing (old-given (pairs_in o) p names)
+
+module _ (old o : Outside) (same : old ≡ o) (thread : ℕ) (p : Value) (b : Bool) (pairing : IsPairing (heap.given old.heap) (heap.memory old.heap))
+    (names : ValueIn (IsOld (pairs_in o)) p) (is : b ≡ waits (heap.memory old.heap) thread p) (rest : Outcome) where
+  waits-is : waits (shown o).memory thread (rename_value (number_of (pairs_in o)) p) ≡ b
+  waits-is =
+      waits-by o thread p (subst (λ (x : Outside). IsPairing (heap.given x.heap) (heap.memory x.heap)) same pairing) names
+      ∙ sym (is ∙ ap (λ (x : Outside). waits (heap.memory x.heap) thread p) same)
+
+  pub lock-waits : b ≡ true → (if waits (shown o).memory thread (rename_value (number_of (pairs_in o)) p) then Waits else rest) ≡ Waits
+  lock-waits e = ap (λ (b : Bool). if b then Waits else rest) (waits-is ∙ e)
+
+  pub lock-goes : b ≡ false → (if waits (shown o).memory thread (rename_value (number_of (pairs_in o)) p) then Waits else rest) ≡ rest
+  lock-goes e = ap (λ (b : Bool). if b then Waits else rest) (waits-is ∙ e)
 
 -- ---- texts
 

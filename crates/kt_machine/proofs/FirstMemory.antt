@@ -161,7 +161,7 @@ global-is p h i g at = get-all (IsGlobal p) p.globals i g h.globals at
 -- ---- no heap object, and no pointer to one
 
 module _ (ps : Pairs) where
-  AllGiven : List Cell → Type 0
+  abbrev AllGiven : List Cell → Type 0
   AllGiven cs = (k : ℕ) (c : Cell) → slice_get cs k ≡ Some c → WasGiven ps c.value
 
   none-given : AllGiven []

@@ -50,7 +50,7 @@ impl Machine {
     ghost use Rattle.kt_lone.specs.World.{outside_of};
     ghost use Rattle.kt_machine.specs.Acts.{KeepsPlace, turned};
     ghost use Rattle.kt_machine.specs.Engine.{code_engine, pairs_of, without_ended, world_of, AreCodesOf, IsReady, IsSettled};
-    ghost use Rattle.kt_heap.specs.Heap.{AreOneToOne};
+    ghost use Rattle.kt_heap.specs.Heap.{memory, AreOneToOne, IsPairing};
     ghost use Rattle.kt_machine.specs.Shared.{shared_of};
 
     /// Before the first turn of a job: `main` stands at its first act, trap or end.
@@ -72,9 +72,10 @@ impl Machine {
         }
     }
 
-    /// No address and no heap number was given out twice.
+    /// The pairs of addresses and heap numbers that were given out are one to one, and live objects have them.
     pub(crate) fn law(&self)
-        ensures { AreOneToOne (pairs_of self.now) }
+        ensures pairing { IsPairing (pairs_of self.now) (memory self.now.shared.outside.heap) }
+        ensures once { AreOneToOne (pairs_of self.now) }
     {
         self.shared.outside().law();
     }

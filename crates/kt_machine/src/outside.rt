@@ -39,7 +39,7 @@ impl Outside {
     ghost use Rattle.std.specs.Option.{is_some};
     ghost use Rattle.std.specs.Prelude.{◌≡◌, ◌≢◌, ◌≤◌, [], true, length, IfOk, if◌then◌else◌};
     ghost use Rattle.kt_heap.specs.ByNumber.{number_of, HoldsGiven};
-    ghost use Rattle.kt_heap.specs.Heap.{memory, AreOneToOne, given as given_out};
+    ghost use Rattle.kt_heap.specs.Heap.{memory, AreOneToOne, IsPairing, given as given_out};
     ghost use Rattle.kt_meaning.specs.Effects as plain;
     ghost use Rattle.kt_mem.specs.Memory as mem;
     ghost use Rattle.kt_types.specs.Layout.{cells, layout};
@@ -69,9 +69,10 @@ impl Outside {
         &self.heap
     }
 
-    /// No address and no heap number was given out twice.
+    /// The pairs of addresses and heap numbers that were given out are one to one, and live objects have them.
     pub fn law(&self)
-        ensures { AreOneToOne (pairs_in self.now) }
+        ensures pairing { IsPairing (pairs_in self.now) (memory self.now.heap) }
+        ensures once { AreOneToOne (pairs_in self.now) }
     {
         self.heap.law();
     }

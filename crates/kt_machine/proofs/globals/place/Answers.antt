@@ -16,11 +16,11 @@ loop-i-preserved c =
     let kept = c.args.kept.now in
     let i = c.loop-i.i in
     record {
-      memory = c.place_one.ensures.placed
-          ∙ ap (λ (m : Memory). placed_one i (get_or kept i None) m) c.loop-i.invariant.memory
+      by_address = c.place_one.ensures.placed
+          ∙ ap (λ (m : Memory). placed_one i (get_or kept i None) m) c.loop-i.invariant.by_address
           ∙ placed-next kept i (memory c.args.heap.now) c.loop-i-test.true;
-      numbered = c.place_one.ensures.numbered
-          ∙ ap (λ (m : Memory). placed_one i (get_or kept i None) m) c.loop-i.invariant.numbered
+      by_heap_number = c.place_one.ensures.numbered
+          ∙ ap (λ (m : Memory). placed_one i (get_or kept i None) m) c.loop-i.invariant.by_heap_number
           ∙ placed-next kept i (by_number (given c.args.heap.now) (memory c.args.heap.now)) c.loop-i-test.true;
-      given = c.place_one.ensures.given ∙ c.loop-i.invariant.given;
+      pairs = c.place_one.ensures.given ∙ c.loop-i.invariant.pairs;
     }

@@ -1,4 +1,4 @@
-use Rattle.std.proofs.Common.{◌≡◌, ◌∙◌, ap, drop, sym, subst, ⊥}
+use Rattle.std.proofs.Common.{◌≡◌, ◌∙◌, ap, drop, sym, subst}
 use Rattle.std.proofs.lemmas.Result.{IfOk-weaker}
 use Rattle.kt_heap.specs.ByNumber.{number_of}
 use Rattle.kt_heap.specs.Heap.{memory, given}
