@@ -3,6 +3,7 @@ pub mod Allocations
 pub mod ByAddress
 pub mod Closings
 pub mod Codes
+pub mod Entries
 pub mod FirstMemory
 pub mod Heads
 pub mod Lists

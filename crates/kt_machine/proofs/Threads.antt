@@ -1,18 +1,51 @@
 -- What machines have in common, as worlds.
-use Rattle.std.specs.Prelude.{◌≡◌, List, [], ◌∷◌, refl}
+use Rattle.std.specs.Prelude.{◌≡◌, true, false, List, [], ◌∷◌, Option, Some, slice_get, refl}
 use Rattle.std.proofs.Common.{sym, ap, subst, ◌∙◌}
+use Rattle.std.proofs.lemmas.Option.{same_Some}
+use Rattle.kt_mem.specs.declared.steps.Act.TheVariants as act
+use Rattle.kt_mem.specs.declared.steps.Reply.{Reply}
+use Rattle.kt_mem.specs.declared.steps.Reply.TheVariants.{Done, Got, Trapped}
+use Rattle.kt_meaning.specs.Steps.{after_reply}
+use Rattle.kt_code.specs.Machine.{step}
+use Rattle.kt_code.specs.Settling.{Fits, head_of, settle}
 use Rattle.kt_code.specs.declared.private.Head.{Head}
+use Rattle.kt_code.specs.declared.private.Head.TheVariants as head
 use Rattle.kt_code.specs.declared.private.Private.{Private}
+use Rattle.kt_heap.specs.Heap as heap
+use Rattle.kt_heap.specs.ByNumber.{Pairs}
+use Rattle.kt_exec.specs.Renaming.{HeadIn, IsOld, PrivateIn, ReplyIn}
 use Rattle.kt_pair.specs.Pair.{Pair}
+use Rattle.kt_lone.specs.Turn.{answered, has_ended}
 use Rattle.kt_lone.specs.World.{Shared, Thread, World}
 use Rattle.kt_machine.specs.declared.machine.Machine.{Machine}
 use Rattle.kt_machine.specs.declared.machine.Standing as declared
 use Rattle.kt_machine.specs.declared.machine.Standing.TheVariants as standing
-use Rattle.kt_machine.specs.Acts.{KeepsThread}
-use Rattle.kt_machine.specs.ByNumber.{private_by}
-use Rattle.kt_machine.specs.Engine.{no_frames, pairs_of, standing_of, thread_of, without_ended, world_of, left_to, IsSettled}
+use Rattle.kt_machine.specs.Acts.{KeepsThread, elsewhere_at, step_of}
+use Rattle.kt_machine.specs.ByNumber.{head_by, private_by, reply_by}
+use Rattle.kt_machine.specs.Engine.{code_engine, code_settle, code_step, no_frames, pairs_of, standing_of, thread_of, without_ended, world_of, left_to, IsSettled, StandsAt}
 use Rattle.kt_machine.specs.Outside.{Outside, pairs_in}
+use Rattle.kt_machine.specs.Shared as machine
 use Rattle.kt_machine.specs.Shared.{shared_of}
+use Rattle.kt_machine.proofs.Heads.{IsStepAt, stands-at}
+use Rattle.kt_machine.proofs.Numbered.{goes-on-by, names-after, names-of, stands-by}
+
+live-parked : standing.Live ≡ standing.Parked → ⊥
+live-parked e = cc
+
+live-ended : standing.Live ≡ standing.Ended → ⊥
+live-ended e = cc
+
+parked-ended : standing.Parked ≡ standing.Ended → ⊥
+parked-ended e = cc
+
+true≢false : true ≡ false → ⊥
+true≢false e = cc
+
+-- a reply that is no trap
+abbrev pub IsAnswer : Reply → Type 0
+IsAnswer Done = Unit {0}
+IsAnswer (Got v) = Unit {0}
+IsAnswer (Trapped t) = ⊥
 
 -- the thread of a machine, of its parts
 abbrev pub thread_with : Outside → Private → declared.Standing → Thread Private
@@ -31,6 +64,13 @@ module _ (m n : Machine) where
       ap (λ (s : Shared). record { shared = s; threads = thread_of n ∷ [] }) e
       ∙ ap (λ (th : Thread Private). record { shared = s; threads = th ∷ [] }) (thread-kept k)
 
+-- this is shared, and the thread stays
+pub world-shared : (m : Machine) (s : machine.Shared) (w : Shared) → s.outside ≡ m.shared.outside → shared_of s ≡ w →
+    world_of (record m { shared = s }) ≡ record { shared = w; threads = thread_of m ∷ [] }
+world-shared m s w outside e =
+    ap (λ (x : Shared). record { shared = x; threads = thread_of (record m { shared = s }) ∷ [] }) e
+    ∙ ap (λ (o : Outside). record { shared = w; threads = thread_with o m.private m.standing ∷ [] }) outside
+
 -- nothing is kept of a thread that has ended
 module _ (codes : List Pair) where
   left-of : (s : declared.Standing) (x : Private) → (s ≡ standing.Ended → x ≡ no_frames x.version x.mode) → (o : Outside) →
@@ -46,3 +86,88 @@ module _ (codes : List Pair) where
 
   pub is-without : (m : Machine) (w : World Private) → IsSettled codes m → world_of m ≡ w → world_of m ≡ without_ended w
   is-without m w h e = sym (settled-without m h) ∙ ap without_ended e
+
+  -- what a thread that lives stands at
+  pub settled-live : (n : Machine) (c : Pair) → n.standing ≡ standing.Live → slice_get codes n.shared.version ≡ Some c → head_of (step c.code n.private) ≡ Some n.head →
+      Fits c.code n.private → PrivateIn (IsOld (pairs_of n)) n.private → IsSettled codes n
+  settled-live n c live at head fits names = record {
+    stands = λ e. subst (λ (o : Option Pair). StandsAt o n.private n.head) (sym at)
+        (record { head = head; fits = λ p is. subst (λ (q : Pair). Fits q.code n.private) (same_Some c p is) fits });
+    parked = λ e. absurd (live-parked (sym live ∙ e));
+    names = names;
+    ended = λ e. absurd (live-ended (sym live ∙ e));
+  }
+
+  module _ (m : Machine) (once : heap.AreOneToOne (pairs_of m)) (h : IsSettled codes m) (on : has_ended (standing_of m.standing) ≡ false) where
+    abbrev ps : Pairs
+    ps = pairs_of m
+
+    pub head-stands : head_of (step_of codes m) ≡ Some (head_by ps m.head)
+    head-stands = stands-by ps once (slice_get codes m.shared.version) m.private m.head h.names (h.stands on).head
+
+    pub stands-numbered : IsStepAt (head_by ps m.head) (step_of codes m)
+    stands-numbered = stands-at (slice_get codes m.shared.version) (private_by ps m.private) (head_by ps m.head) head-stands
+
+    pub head-names : HeadIn (IsOld ps) (Some m.head)
+    head-names = names-of ps once (slice_get codes m.shared.version) m.private m.head h.names (h.stands on).head
+
+    module _ (c : Pair) (at : slice_get codes m.shared.version ≡ Some c) (r : Reply) (told : ReplyIn (IsOld ps) r) where
+      own-head : head_of (step c.code m.private) ≡ Some m.head
+      own-head = subst (λ (o : Option Pair). head_of (code_step o m.private) ≡ Some m.head) at (h.stands on).head
+
+      -- the thread after a reply, by heap number
+      pub replied-state : (x : Private) → x ≡ settle c.code (after_reply m.private (step c.code m.private) r) →
+          private_by ps x ≡ code_settle (slice_get codes m.shared.version)
+          (after_reply (private_by ps m.private) (code_step (slice_get codes m.shared.version) (private_by ps m.private)) (reply_by ps r))
+      replied-state x is =
+          ap (λ (y : Private). private_by ps y) is
+          ∙ sym (goes-on-by ps once c m.private h.names m.head own-head r told)
+          ∙ sym (ap (λ (o : Option Pair). code_settle o (after_reply (private_by ps m.private) (code_step o (private_by ps m.private)) (reply_by ps r))) at)
+
+      pub replied-names : (x : Private) → x ≡ settle c.code (after_reply m.private (step c.code m.private) r) → PrivateIn (IsOld ps) x
+      replied-names x is =
+          subst (λ (y : Private). PrivateIn (IsOld ps) y) (sym is) (names-after ps once c m.private h.names m.head own-head r told)
+
+  -- the machine after the reply
+  pub answered-world : (m n : Machine) (r : Reply) → IsAnswer r → n.shared ≡ m.shared → n.standing ≡ m.standing →
+      private_by (pairs_of m) n.private ≡ code_settle (slice_get codes m.shared.version)
+      (after_reply (private_by (pairs_of m) m.private) (code_step (slice_get codes m.shared.version) (private_by (pairs_of m) m.private)) (reply_by (pairs_of m) r)) →
+      world_of n ≡ answered (code_engine codes) (world_of m) 0 (thread_of m) (shared_of m.shared) (reply_by (pairs_of m) r)
+  answered-world m n r free shared standing state =
+      ap (λ (s : machine.Shared). record { shared = shared_of s; threads = thread_with s.outside n.private n.standing ∷ [] }) shared
+      ∙ ap (λ (s : declared.Standing). record { shared = shared_of m.shared; threads = thread_with m.shared.outside n.private s ∷ [] }) standing
+      ∙ by_reply r free
+      (ap (λ (x : Private). record { shared = shared_of m.shared; threads = record { state = x; standing = standing_of m.standing } ∷ [] }) state)
+    where
+      by_reply : (r : Reply) → IsAnswer r →
+          record { shared = shared_of m.shared; threads = thread_with m.shared.outside n.private m.standing ∷ [] }
+          ≡ record {
+            shared = shared_of m.shared;
+            threads = record {
+              state = code_settle (slice_get codes m.shared.version)
+                  (after_reply (private_by (pairs_of m) m.private) (code_step (slice_get codes m.shared.version) (private_by (pairs_of m) m.private)) (reply_by (pairs_of m) r));
+              standing = standing_of m.standing;
+            } ∷ [];
+          } →
+          record { shared = shared_of m.shared; threads = thread_with m.shared.outside n.private m.standing ∷ [] }
+          ≡ answered (code_engine codes) (world_of m) 0 (thread_of m) (shared_of m.shared) (reply_by (pairs_of m) r)
+      by_reply Done free is = is
+      by_reply (Got v) free is = is
+      by_reply (Trapped t) free is = absurd free
+
+  -- what an act elsewhere does, of a machine that is settled then
+  pub elsewhere-is : (m n : Machine) (h : Head) → m.head ≡ h → IsSettled codes n → world_of n ≡ elsewhere_at (code_engine codes) (world_of m) (thread_of m) h →
+      world_of n ≡ without_ended (elsewhere_at (code_engine codes) (world_of m) (thread_of m) m.head)
+  elsewhere-is m n h at settled is =
+      is-without n _ settled (is ∙ ap (λ (h : Head). elsewhere_at (code_engine codes) (world_of m) (thread_of m) h) (sym at))
+
+  pub ended-world : (m n : Machine) → m.head ≡ head.Act act.ThreadEnd →
+      n ≡ record m { private = no_frames m.private.version m.private.mode; standing = standing.Ended } →
+      world_of n ≡ without_ended (elsewhere_at (code_engine codes) (world_of m) (thread_of m) m.head)
+  ended-world m n at keeps =
+      ap world_of keeps ∙ ap (λ (h : Head). without_ended (elsewhere_at (code_engine codes) (world_of m) (thread_of m) h)) (sym at)
+
+  pub ended-settled : (m n : Machine) → n ≡ record m { private = no_frames m.private.version m.private.mode; standing = standing.Ended } → IsSettled codes n
+  ended-settled m n keeps =
+      subst (IsSettled codes) (sym keeps)
+      (record { stands = λ e. absurd (true≢false e); parked = λ e. absurd (parked-ended (sym e)); names = (tt, tt, tt); ended = λ e. refl })
