@@ -62,7 +62,7 @@ undefined-among P (suc n) = (tt, undefined-among P n)
 
 entry_at-names : (P : ℕ → Type 0) (v : ℕ) (mode : Mode) (g : ℕ) (f : Function) (o : Option ℕ) → PrivateIn P (entry_at v mode g f o)
 entry_at-names P v mode g f None = (tt, tt, tt)
-entry_at-names P v mode g f (Some at) = ((undefined-among P (length f.locals), tt), tt, tt)
+entry_at-names P v mode g f (Some at) = ((undefined-among P (length f.locals - 0), tt), tt, tt)
 
 entry_of-names : (P : ℕ → Type 0) (v : ℕ) (mode : Mode) (c : Code) (o : Option (ℕ × Function)) → PrivateIn P (entry_of v mode c o)
 entry_of-names P v mode c None = (tt, tt, tt)
