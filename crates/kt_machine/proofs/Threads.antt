@@ -2,6 +2,7 @@
 use Rattle.std.specs.Prelude.{◌≡◌, true, false, List, [], ◌∷◌, Option, Some, slice_get, refl}
 use Rattle.std.proofs.Common.{sym, ap, subst, ◌∙◌}
 use Rattle.std.proofs.lemmas.Option.{same_Some}
+use Rattle.kt_mem.specs.declared.steps.Act.{Act}
 use Rattle.kt_mem.specs.declared.steps.Act.TheVariants as act
 use Rattle.kt_mem.specs.declared.steps.Reply.{Reply}
 use Rattle.kt_mem.specs.declared.steps.Reply.TheVariants.{Done, Got, Trapped}
@@ -12,20 +13,21 @@ use Rattle.kt_code.specs.declared.private.Head.{Head}
 use Rattle.kt_code.specs.declared.private.Head.TheVariants as head
 use Rattle.kt_code.specs.declared.private.Private.{Private}
 use Rattle.kt_heap.specs.Heap as heap
-use Rattle.kt_heap.specs.ByNumber.{Pairs}
-use Rattle.kt_exec.specs.Renaming.{HeadIn, IsOld, PrivateIn, ReplyIn}
+use Rattle.kt_heap.specs.ByNumber.{Pairs, number_of}
+use Rattle.kt_exec.specs.Renaming.{ActIn, HeadIn, IsOld, PrivateIn, ReplyIn, rename_act}
 use Rattle.kt_pair.specs.Pair.{Pair}
 use Rattle.kt_lone.specs.Turn.{answered, has_ended}
 use Rattle.kt_lone.specs.World.{Shared, Thread, World}
 use Rattle.kt_machine.specs.declared.machine.Machine.{Machine}
 use Rattle.kt_machine.specs.declared.machine.Standing as declared
 use Rattle.kt_machine.specs.declared.machine.Standing.TheVariants as standing
-use Rattle.kt_machine.specs.Acts.{KeepsThread, elsewhere_at, step_of}
+use Rattle.kt_machine.specs.Acts.{KeepsThread, elsewhere_at, step_of, waits_at}
 use Rattle.kt_machine.specs.ByNumber.{head_by, private_by, reply_by}
 use Rattle.kt_machine.specs.Engine.{code_engine, code_settle, code_step, no_frames, pairs_of, standing_of, thread_of, without_ended, world_of, left_to, IsSettled, StandsAt}
-use Rattle.kt_machine.specs.Outside.{Outside, pairs_in}
+use Rattle.kt_machine.specs.Outside.{Outside, pairs_in, shown}
 use Rattle.kt_machine.specs.Shared as machine
 use Rattle.kt_machine.specs.Shared.{shared_of}
+use Rattle.kt_machine.proofs.ByAddress.{waits-by}
 use Rattle.kt_machine.proofs.Heads.{IsStepAt, stands-at}
 use Rattle.kt_machine.proofs.Numbered.{goes-on-by, names-after, names-of, stands-by}
 
@@ -167,7 +169,24 @@ module _ (codes : List Pair) where
   ended-world m n at keeps =
       ap world_of keeps ∙ ap (λ (h : Head). without_ended (elsewhere_at (code_engine codes) (world_of m) (thread_of m) h)) (sym at)
 
+  -- of a thread that has ended nothing is asked, whatever is shared
+  pub ended-kept : (m n : Machine) → m.standing ≡ standing.Ended → n ≡ record m { shared = n.shared } → IsSettled codes m → IsSettled codes n
+  ended-kept m n ended keeps h =
+      subst (IsSettled codes) (sym keeps)
+      (record {
+        stands = λ e. absurd (true≢false (sym (ap (λ s. has_ended (standing_of s)) ended) ∙ e));
+        parked = λ e. absurd (parked-ended (sym e ∙ ended));
+        names = subst (λ (x : Private). PrivateIn (IsOld (pairs_of n)) x) (sym (h.ended ended)) (tt, tt, tt);
+        ended = h.ended;
+      })
+
   pub ended-settled : (m n : Machine) → n ≡ record m { private = no_frames m.private.version m.private.mode; standing = standing.Ended } → IsSettled codes n
   ended-settled m n keeps =
       subst (IsSettled codes) (sym keeps)
       (record { stands = λ e. absurd (true≢false e); parked = λ e. absurd (parked-ended (sym e)); names = (tt, tt, tt); ended = λ e. refl })
+
+-- a lock waits by address as it does by heap number
+pub waits_at-by : (o : Outside) (a : Act) → heap.IsPairing (pairs_in o) (heap.memory o.heap) → ActIn (IsOld (pairs_in o)) a →
+    waits_at (shown o).memory (rename_act (number_of (pairs_in o)) a) ≡ waits_at (heap.memory o.heap) a
+waits_at-by o (act.Lock p) pairing names = waits-by o 0 p pairing names
+waits_at-by o a pairing names = refl

@@ -97,6 +97,7 @@ impl Machine {
         ensures settled { OnOk result (IsSettled codes.now self.new) }
         ensures version { OnOk result (self.new.shared.version < length codes.now) }
     {
+        self.law();
         match self.standing {
             Standing::Parked => match self.next_point(old, new) {
                 Some(point) => self.restart(alloc, job, codes, old, new, point),
