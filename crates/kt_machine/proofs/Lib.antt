@@ -6,6 +6,7 @@ pub mod Codes
 pub mod Entries
 pub mod FirstMemory
 pub mod Heads
+pub mod Keeping
 pub mod Lists
 pub mod MainEntry
 pub mod Memory

@@ -1,14 +1,17 @@
 -- What machines have in common, as worlds.
-use Rattle.std.specs.Prelude.{◌≡◌, true, false, List, [], ◌∷◌, Option, Some, slice_get, refl}
-use Rattle.std.proofs.Common.{sym, ap, subst, ◌∙◌}
+use Rattle.std.specs.Prelude.{◌≡◌, ◌⊎◌, true, false, List, [], ◌∷◌, Option, Some, Result, Ok, Err, OnOk, slice_get, refl}
+use Rattle.std.proofs.Common.{sym, ap, subst, ◌∙◌, inl, inr}
 use Rattle.std.proofs.lemmas.Option.{same_Some}
 use Rattle.kt_mem.specs.declared.steps.Act.{Act}
 use Rattle.kt_mem.specs.declared.steps.Act.TheVariants as act
+use Rattle.kt_mem.specs.declared.memory.Value.{Value}
 use Rattle.kt_mem.specs.declared.steps.Reply.{Reply}
 use Rattle.kt_mem.specs.declared.steps.Reply.TheVariants.{Done, Got, Trapped}
-use Rattle.kt_meaning.specs.Steps.{after_reply}
+use Rattle.kt_meaning.specs.Steps.{Step, Quiet, Acts, Traps, Ends, after_reply}
+use Rattle.kt_code.specs.Agreement.{IsReplyTo}
+use Rattle.kt_code.specs.Code.{Code}
 use Rattle.kt_code.specs.Machine.{step}
-use Rattle.kt_code.specs.Settling.{Fits, head_of, settle}
+use Rattle.kt_code.specs.Settling.{Fits, IsAct, head_of, settle}
 use Rattle.kt_code.specs.declared.private.Head.{Head}
 use Rattle.kt_code.specs.declared.private.Head.TheVariants as head
 use Rattle.kt_code.specs.declared.private.Private.{Private}
@@ -17,11 +20,15 @@ use Rattle.kt_heap.specs.ByNumber.{Pairs, number_of}
 use Rattle.kt_exec.specs.Renaming.{ActIn, HeadIn, IsOld, PrivateIn, ReplyIn, rename_act}
 use Rattle.kt_pair.specs.Pair.{Pair}
 use Rattle.kt_lone.specs.Turn.{answered, has_ended}
-use Rattle.kt_lone.specs.World.{Shared, Thread, World}
+use Rattle.kt_lone.specs.declared.mark.Closed.TheVariants as closed
+use Rattle.kt_lone.specs.declared.mark.Mark.TheVariants.{Close}
+use Rattle.kt_lone.specs.declared.mark.Phase.TheVariants.{Run}
+use Rattle.kt_lone.specs.Update.{let_go, marked, refused}
+use Rattle.kt_lone.specs.World.{Live, Shared, Thread, World}
 use Rattle.kt_machine.specs.declared.machine.Machine.{Machine}
 use Rattle.kt_machine.specs.declared.machine.Standing as declared
 use Rattle.kt_machine.specs.declared.machine.Standing.TheVariants as standing
-use Rattle.kt_machine.specs.Acts.{KeepsThread, elsewhere_at, step_of, waits_at}
+use Rattle.kt_machine.specs.Acts.{KeepsThread, MayReply, elsewhere_at, own_step, step_of, waits_at}
 use Rattle.kt_machine.specs.ByNumber.{head_by, private_by, reply_by}
 use Rattle.kt_machine.specs.Engine.{code_engine, code_settle, code_step, no_frames, pairs_of, standing_of, thread_of, without_ended, world_of, left_to, IsSettled, StandsAt}
 use Rattle.kt_machine.specs.Outside.{Outside, pairs_in, shown}
@@ -48,6 +55,21 @@ abbrev pub IsAnswer : Reply → Type 0
 IsAnswer Done = Unit {0}
 IsAnswer (Got v) = Unit {0}
 IsAnswer (Trapped t) = ⊥
+
+pub is-answer : (r : Reply) → (r ≡ Done) ⊎ ((v : Value) × (r ≡ Got v)) → IsAnswer r
+is-answer r (inl e) = subst IsAnswer (sym e) tt
+is-answer r (inr e) = subst IsAnswer (sym e.1) tt
+
+answers : (s : Step Private) (r : Reply) → IsAnswer r → MayReply s r → IsReplyTo s r
+answers s Done free h = h
+answers s (Got v) free h = h
+answers s (Trapped t) free h = absurd free
+
+acts-if : (s : Step Private) (r : Reply) → IsReplyTo s r → IsAct s
+acts-if (Acts a go) r h = tt
+acts-if (Quiet x) r h = absurd h
+acts-if (Traps t) r h = absurd h
+acts-if (Ends a) r h = absurd h
 
 -- the thread of a machine, of its parts
 abbrev pub thread_with : Outside → Private → declared.Standing → Thread Private
@@ -130,6 +152,51 @@ module _ (codes : List Pair) where
       replied-names x is =
           subst (λ (y : Private). PrivateIn (IsOld ps) y) (sym is) (names-after ps once c m.private h.names m.head own-head r told)
 
+  -- the machine has gone on after a reply
+  module _ (m : Machine) (once : heap.AreOneToOne (pairs_of m)) (h : IsSettled codes m) (on : has_ended (standing_of m.standing) ≡ false)
+      (c : Pair) (at : slice_get codes m.shared.version ≡ Some c) (r : Reply) (told : ReplyIn (IsOld (pairs_of m)) r) where
+    pub gone-live : (n : Machine) (q : Code) → q ≡ c.code → n.standing ≡ standing.Live → n.shared.version ≡ m.shared.version → n.shared.outside ≡ m.shared.outside →
+        n.private ≡ settle c.code (after_reply m.private (step c.code m.private) r) → head_of (step q n.private) ≡ Some n.head → Fits q n.private → IsSettled codes n
+    gone-live n q same live version outside state head fits =
+        settled-live n c live (ap (slice_get codes) version ∙ at) (subst (λ (q : Code). head_of (step q n.private) ≡ Some n.head) same head)
+        (subst (λ (q : Code). Fits q n.private) same fits)
+        (subst (λ (o : Outside). PrivateIn (IsOld (pairs_in o)) n.private) (sym outside) (replied-names m once h on c at r told n.private state))
+
+    pub settled-gone : {A E : Type 0} (n : Machine) (result : Result A E) (q : Code) → q ≡ c.code → n.standing ≡ standing.Live → n.shared ≡ m.shared →
+        OnOk result (n.private ≡ settle c.code (after_reply m.private (step c.code m.private) r)) → OnOk result (head_of (step q n.private) ≡ Some n.head) →
+        OnOk result (Fits q n.private) → OnOk result (IsSettled codes n)
+    settled-gone n (Ok u) q same live shared state head fits =
+        gone-live n q same live (ap (λ (s : machine.Shared). s.version) shared) (ap (λ (s : machine.Shared). s.outside) shared) state head fits
+    settled-gone n (Err e) q same live shared state head fits = tt
+
+  -- this is shared, in the same version and with the same heap
+  pub settled-shared : (m : Machine) (s : machine.Shared) → s.version ≡ m.shared.version → s.outside ≡ m.shared.outside → IsSettled codes m →
+      IsSettled codes (record m { shared = s })
+  settled-shared m s version outside h = record {
+    stands = λ e. subst (λ v. StandsAt (slice_get codes v) m.private m.head) (sym version) (h.stands e);
+    parked = h.parked;
+    names = subst (λ (o : Outside). PrivateIn (IsOld (pairs_in o)) m.private) (sym outside) h.names;
+    ended = h.ended;
+  }
+
+  -- what is asked before the thread goes on
+  module _ (m : Machine) (h : IsSettled codes m) (on : has_ended (standing_of m.standing) ≡ false) (c : Pair) (at : slice_get codes m.shared.version ≡ Some c) where
+    own-fits : Fits c.code m.private
+    own-fits = (h.stands on).fits c at
+
+    module _ (r : Reply) (free : IsAnswer r) (may : MayReply (own_step codes m) r) (q : Code) (same : q ≡ c.code) where
+      told : IsReplyTo (step c.code m.private) r
+      told = subst (λ (o : Option Pair). IsReplyTo (code_step o m.private) r) at (answers (own_step codes m) r free may)
+
+      pub goes-act : IsAct (step q m.private)
+      goes-act = subst (λ (q : Code). IsAct (step q m.private)) (sym same) (acts-if (step c.code m.private) r told)
+
+      pub goes-reply : IsReplyTo (step q m.private) r
+      goes-reply = subst (λ (q : Code). IsReplyTo (step q m.private) r) (sym same) told
+
+      pub goes-fits : Fits q m.private
+      goes-fits = subst (λ (q : Code). Fits q m.private) (sym same) own-fits
+
   -- the machine after the reply
   pub answered-world : (m n : Machine) (r : Reply) → IsAnswer r → n.shared ≡ m.shared → n.standing ≡ m.standing →
       private_by (pairs_of m) n.private ≡ code_settle (slice_get codes m.shared.version)
@@ -156,6 +223,20 @@ module _ (codes : List Pair) where
       by_reply Done free is = is
       by_reply (Got v) free is = is
       by_reply (Trapped t) free is = absurd free
+
+  -- the thread goes on past its point
+  pub refused-world : (m : Machine) (s q : machine.Shared) (x : Private) (h : Head) → q ≡ m.shared → s.outside ≡ q.outside →
+      shared_of s ≡ marked (Close q.turns q.requests (closed.Point 0)) (record (shared_of q) { phase = Run }) → m.standing ≡ standing.Parked →
+      private_by (pairs_of m) x ≡ code_settle (slice_get codes m.shared.version)
+      (after_reply (private_by (pairs_of m) m.private) (code_step (slice_get codes m.shared.version) (private_by (pairs_of m) m.private)) Done) →
+      world_of (record { shared = s; private = x; head = h; standing = standing.Live }) ≡ refused (code_engine codes) 0 (world_of m)
+  refused-world m s q x h same outside shared parked state =
+      let e = code_engine codes in
+      let after : machine.Shared → Shared = λ q. marked (Close q.turns q.requests (closed.Point 0)) (record (shared_of q) { phase = Run }) in
+      ap (λ (w : Shared). record { shared = w; threads = thread_with s.outside x standing.Live ∷ [] }) (shared ∙ ap after same)
+      ∙ ap (λ (o : Outside). record { shared = after m.shared; threads = thread_with o x standing.Live ∷ [] }) (outside ∙ ap (λ (q : machine.Shared). q.outside) same)
+      ∙ ap (λ (y : Private). record { shared = after m.shared; threads = record { state = y; standing = Live } ∷ [] }) state
+      ∙ sym (ap (λ (st : declared.Standing). record { shared = after m.shared; threads = let_go e m.shared.version (thread_with m.shared.outside m.private st) ∷ [] }) parked)
 
   -- what an act elsewhere does, of a machine that is settled then
   pub elsewhere-is : (m n : Machine) (h : Head) → m.head ≡ h → IsSettled codes n → world_of n ≡ elsewhere_at (code_engine codes) (world_of m) (thread_of m) h →

@@ -83,6 +83,7 @@ impl Machine {
         ensures settled { OnOk result (IsSettled codes.now self.new) }
         ensures place { OnOk result (KeepsPlace self.old self.new) }
     {
+        self.law();
         match reply {
             Reply::Trapped(cause) => {
                 self.shared.end(End::Trap(0, cause));

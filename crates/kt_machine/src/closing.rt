@@ -181,6 +181,7 @@ impl Machine {
         ensures settled { OnOk result (IsSettled codes.now self.new) }
         ensures version { OnOk result (self.new.shared.version ≡ self.old.shared.version) }
     {
+        self.law();
         let compiled = in_force(codes, self.shared.version());
         self.go_on(alloc, compiled.code(), Reply::Done)?;
         self.standing = Standing::Live;
