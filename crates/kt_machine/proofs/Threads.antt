@@ -75,6 +75,9 @@ acts-if (Ends a) r h = absurd h
 abbrev pub thread_with : Outside → Private → declared.Standing → Thread Private
 thread_with o x s = record { state = private_by (pairs_in o) x; standing = standing_of s }
 
+abbrev pub alone : Shared → Thread Private → World Private
+alone s th = record { shared = s; threads = th ∷ [] }
+
 module _ (m n : Machine) where
   pub thread-kept : KeepsThread m n → thread_of n ≡ thread_of m
   thread-kept k =
@@ -203,22 +206,18 @@ module _ (codes : List Pair) where
       (after_reply (private_by (pairs_of m) m.private) (code_step (slice_get codes m.shared.version) (private_by (pairs_of m) m.private)) (reply_by (pairs_of m) r)) →
       world_of n ≡ answered (code_engine codes) (world_of m) 0 (thread_of m) (shared_of m.shared) (reply_by (pairs_of m) r)
   answered-world m n r free shared standing state =
-      ap (λ (s : machine.Shared). record { shared = shared_of s; threads = thread_with s.outside n.private n.standing ∷ [] }) shared
-      ∙ ap (λ (s : declared.Standing). record { shared = shared_of m.shared; threads = thread_with m.shared.outside n.private s ∷ [] }) standing
-      ∙ by_reply r free
-      (ap (λ (x : Private). record { shared = shared_of m.shared; threads = record { state = x; standing = standing_of m.standing } ∷ [] }) state)
+      ap (λ (s : machine.Shared). alone (shared_of s) (thread_with s.outside n.private n.standing)) shared
+      ∙ ap (λ (s : declared.Standing). alone (shared_of m.shared) (thread_with m.shared.outside n.private s)) standing
+      ∙ by_reply r free (ap (λ (x : Private). alone (shared_of m.shared) (record { state = x; standing = standing_of m.standing })) state)
     where
       by_reply : (r : Reply) → IsAnswer r →
-          record { shared = shared_of m.shared; threads = thread_with m.shared.outside n.private m.standing ∷ [] }
-          ≡ record {
-            shared = shared_of m.shared;
-            threads = record {
-              state = code_settle (slice_get codes m.shared.version)
-                  (after_reply (private_by (pairs_of m) m.private) (code_step (slice_get codes m.shared.version) (private_by (pairs_of m) m.private)) (reply_by (pairs_of m) r));
-              standing = standing_of m.standing;
-            } ∷ [];
-          } →
-          record { shared = shared_of m.shared; threads = thread_with m.shared.outside n.private m.standing ∷ [] }
+          alone (shared_of m.shared) (thread_with m.shared.outside n.private m.standing)
+          ≡ alone (shared_of m.shared) (record {
+            state = code_settle (slice_get codes m.shared.version)
+                (after_reply (private_by (pairs_of m) m.private) (code_step (slice_get codes m.shared.version) (private_by (pairs_of m) m.private)) (reply_by (pairs_of m) r));
+            standing = standing_of m.standing;
+          }) →
+          alone (shared_of m.shared) (thread_with m.shared.outside n.private m.standing)
           ≡ answered (code_engine codes) (world_of m) 0 (thread_of m) (shared_of m.shared) (reply_by (pairs_of m) r)
       by_reply Done free is = is
       by_reply (Got v) free is = is
