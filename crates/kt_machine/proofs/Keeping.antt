@@ -2,6 +2,7 @@
 use Rattle.std.specs.Prelude.{◌≡◌, ℕ, IsTrue, List, [], ◌∷◌, map, Option, None, Some, option_and_then, Result, Ok, Err, refl}
 use Rattle.std.specs.List.{All}
 use Rattle.std.proofs.Common.{sym, ap, subst, ◌∙◌}
+use Rattle.std.proofs.lemmas.Bool.{false≢true}
 use Rattle.std.proofs.lemmas.List.Elements.{All-head, All-tail}
 use Rattle.kt_types.specs.declared.kinds.Ty.TheVariants as ty
 use Rattle.kt_tree.specs.declared.global.GlobalDecl.{GlobalDecl}
@@ -25,11 +26,11 @@ use Rattle.kt_machine.specs.Outside.{Outside, AreNumbers, IsNumber, pairs_in, sh
 module _ (ps : Pairs) (m : Memory) (pairing : IsPairing ps m) where
   int-same : (v : Value) → IsTrue (is_of ty.Int (value_by_number ps v)) → (v ≡ value_by_number ps v) × IsNumber (Some v)
   int-same (Num z) h = (refl, tt)
-  int-same Null h = absurd h
-  int-same (Ptr n k) h = absurd h
-  int-same Free h = absurd h
-  int-same (Held t) h = absurd h
-  int-same Undef h = absurd h
+  int-same Null h = absurd (false≢true h)
+  int-same (Ptr n k) h = absurd (false≢true h)
+  int-same Free h = absurd (false≢true h)
+  int-same (Held t) h = absurd (false≢true h)
+  int-same Undef h = absurd (false≢true h)
 
   answer-same : (r : Result Value Trap) → IsIntIfSome (value_if (answer_by (value_by_number ps) r)) →
       (value_if r ≡ value_if (answer_by (value_by_number ps) r)) × IsNumber (value_if r)
