@@ -28,7 +28,7 @@ use Rattle.kt_lone.specs.World.{Live, Shared, Thread, World}
 use Rattle.kt_machine.specs.declared.machine.Machine.{Machine}
 use Rattle.kt_machine.specs.declared.machine.Standing as declared
 use Rattle.kt_machine.specs.declared.machine.Standing.TheVariants as standing
-use Rattle.kt_machine.specs.Acts.{KeepsThread, MayReply, elsewhere_at, own_step, step_of, waits_at}
+use Rattle.kt_machine.specs.Acts.{KeepsThread, MayReply, left_at, own_step, step_of, waits_at}
 use Rattle.kt_machine.specs.ByNumber.{head_by, private_by, reply_by}
 use Rattle.kt_machine.specs.Engine.{code_engine, code_settle, code_step, no_frames, pairs_of, standing_of, thread_of, without_ended, world_of, left_to, IsSettled, StandsAt}
 use Rattle.kt_machine.specs.Outside.{Outside, pairs_in, shown}
@@ -238,16 +238,10 @@ module _ (codes : List Pair) where
       ∙ sym (ap (λ (st : declared.Standing). record { shared = after m.shared; threads = let_go e m.shared.version (thread_with m.shared.outside m.private st) ∷ [] }) parked)
 
   -- what an act elsewhere does, of a machine that is settled then
-  pub elsewhere-is : (m n : Machine) (h : Head) → m.head ≡ h → IsSettled codes n → world_of n ≡ elsewhere_at (code_engine codes) (world_of m) (thread_of m) h →
-      world_of n ≡ without_ended (elsewhere_at (code_engine codes) (world_of m) (thread_of m) m.head)
-  elsewhere-is m n h at settled is =
-      is-without n _ settled (is ∙ ap (λ (h : Head). elsewhere_at (code_engine codes) (world_of m) (thread_of m) h) (sym at))
-
-  pub ended-world : (m n : Machine) → m.head ≡ head.Act act.ThreadEnd →
-      n ≡ record m { private = no_frames m.private.version m.private.mode; standing = standing.Ended } →
-      world_of n ≡ without_ended (elsewhere_at (code_engine codes) (world_of m) (thread_of m) m.head)
-  ended-world m n at keeps =
-      ap world_of keeps ∙ ap (λ (h : Head). without_ended (elsewhere_at (code_engine codes) (world_of m) (thread_of m) h)) (sym at)
+  pub elsewhere-without : (n : Machine) (h : Head) (w : World Private) → IsSettled codes n → world_of n ≡ left_at h w → world_of n ≡ without_ended w
+  elsewhere-without n (head.Act act.ThreadEnd) w settled is = is
+  elsewhere-without n (head.Act a) w settled is = is-without n w settled is
+  elsewhere-without n (head.Trap t) w settled is = is-without n w settled is
 
   -- of a thread that has ended nothing is asked, whatever is shared
   pub ended-kept : (m n : Machine) → m.standing ≡ standing.Ended → n ≡ record m { shared = n.shared } → IsSettled codes m → IsSettled codes n
@@ -259,11 +253,6 @@ module _ (codes : List Pair) where
         names = subst (λ (x : Private). PrivateIn (IsOld (pairs_of n)) x) (sym (h.ended ended)) (tt, tt, tt);
         ended = h.ended;
       })
-
-  pub ended-settled : (m n : Machine) → n ≡ record m { private = no_frames m.private.version m.private.mode; standing = standing.Ended } → IsSettled codes n
-  ended-settled m n keeps =
-      subst (IsSettled codes) (sym keeps)
-      (record { stands = λ e. absurd (true≢false e); parked = λ e. absurd (parked-ended (sym e)); names = (tt, tt, tt); ended = λ e. refl })
 
 -- a lock waits by address as it does by heap number
 pub waits_at-by : (o : Outside) (a : Act) → heap.IsPairing (pairs_in o) (heap.memory o.heap) → ActIn (IsOld (pairs_in o)) a →

@@ -62,6 +62,11 @@ elsewhere_at e w th (head.Act (act.MainReturn n)) = ends w 0 th (act.MainReturn 
 elsewhere_at e w th (head.Act a) = elsewhere e w 0 th a
 elsewhere_at e w th (head.Trap t) = w
 
+-- at its end nothing is kept of the thread
+abbrev pub left_at : Head → World Private → World Private
+left_at (head.Act act.ThreadEnd) w = without_ended w
+left_at h w = w
+
 -- the act is a lock of a mutex that another thread than thread 0 holds
 abbrev pub waits_at : Memory → Act → Bool
 waits_at m (act.Lock p) = waits m 0 p

@@ -22,7 +22,7 @@ impl Machine {
     ghost use Rattle.kt_lone.specs.Plain.{job_of};
     ghost use Rattle.kt_lone.specs.Turn as plain_turn;
     ghost use Rattle.kt_exec.specs.Renaming.{HeadIn, IsOld, ReplyIn};
-    ghost use Rattle.kt_machine.specs.Acts.{KeepsPlace, MayReply, elsewhere_at, outcome_at, own_step};
+    ghost use Rattle.kt_machine.specs.Acts.{KeepsPlace, MayReply, elsewhere_at, left_at, outcome_at, own_step};
     ghost use Rattle.kt_machine.specs.ByNumber.{head_by, reply_by, Grows};
     ghost use Rattle.kt_machine.specs.Engine.{code_engine, no_frames, pairs_of, thread_of, without_ended, world_of, AreCodesOf, IsCompleteHead, IsPointHead, IsReady, IsSettled, StandsAt};
     ghost use Rattle.kt_machine.specs.Outside.{outcome_of, shown, OutcomeIn};
@@ -122,7 +122,7 @@ impl Machine {
         requires version { self.old.shared.version < length codes.now }
         requires live { self.old.standing ≡ Standing.Live }
         requires settled { IsSettled codes.now self.old }
-        ensures world { OnOk result (world_of self.new ≡ without_ended (elsewhere_at (code_engine codes.now) (world_of self.old) (thread_of self.old) self.old.head)) }
+        ensures world { OnOk result (world_of self.new ≡ left_at self.old.head (elsewhere_at (code_engine codes.now) (world_of self.old) (thread_of self.old) self.old.head)) }
         ensures settled { OnOk result (IsSettled codes.now self.new) }
         ensures place { OnOk result (KeepsPlace self.old self.new) }
     {

@@ -11,10 +11,10 @@ use Rattle.kt_exec.specs.Renaming.{IsOld}
 use Rattle.kt_machine.specs.Acts.{MayReply, own_step}
 use Rattle.kt_machine.specs.Engine.{pairs_of, standing_of}
 use Rattle.kt_machine.specs.Outside.{OutcomeIn, outcome_of, shown}
-use Rattle.kt_machine.proofs.Acting.{both-ok, on-ok, same-step, settled-left, may-reply, acted-replies, acted-waits, acted-elsewhere}
+use Rattle.kt_machine.proofs.Acting.{both-ok, same-step, settled-left, may-reply, acted-replies, acted-waits, acted-elsewhere}
 use Rattle.kt_machine.proofs.Codes.{types-in}
 use Rattle.kt_machine.proofs.Heads.{stands-at}
-use Rattle.kt_machine.proofs.Threads.{head-names, is-without, stands-numbered}
+use Rattle.kt_machine.proofs.Threads.{elsewhere-without, head-names, is-without, stands-numbered}
 use Rattle.kt_machine.proofs.machine.Machine.act.Goals as goal
 
 pub outcome-requires-clause-names : goal.outcome-requires-clause-names
@@ -95,7 +95,8 @@ returns-in-Elsewhere-clause-world c =
     let same_types : types_at job m.shared.version ≡ c.types-types.result.now =
     types-in job c.args.codes.now c.requires.codes m.shared.version c.in_force.result.now (ap (slice_get c.args.codes.now) (sym c.version.ensures) ∙ c.in_force.ensures)
     ∙ ap (λ (p : Program). p.types) (sym c.version-2.ensures) ∙ sym c.types-types.ensures in
-    on-ok c.elsewhere.result
-    (acted-elsewhere c.args.codes.now job m mid c.elsewhere.new.self c.types-types.result.now same_types k mid.shared.outside c.outcome.ensures.machine
-    c.in_ok-reply.ensures.grows c.requires.settled.names outcome (c.in_ok-reply.ensures.kept.1 c.in-Elsewhere.is))
-    c.elsewhere.ensures.world
+    both-ok c.elsewhere.result
+    (λ is settled. acted-elsewhere c.args.codes.now job m mid c.elsewhere.new.self c.types-types.result.now same_types k mid.shared.outside c.outcome.ensures.machine
+    c.in_ok-reply.ensures.grows c.requires.settled.names outcome (c.in_ok-reply.ensures.kept.1 c.in-Elsewhere.is)
+    (elsewhere-without c.args.codes.now c.elsewhere.new.self mid.head _ settled is))
+    c.elsewhere.ensures.world c.elsewhere.ensures.settled
