@@ -55,9 +55,9 @@ module _ (ps : Pairs) (m : Memory) (pairing : IsPairing ps m) where
   values-same old (g ∷ gs) h =
       let first = found-same (old_global old g) (All-head IsIntIfSome (kept_value old (by_number ps m) g) (map (kept_value old (by_number ps m)) gs) h) in
       let rest = values-same old gs (All-tail IsIntIfSome (kept_value old (by_number ps m) g) (map (kept_value old (by_number ps m)) gs) h) in (
-        ap (λ (k : Option Value). k ∷ map (kept_value old m) gs) first.0 ∙ ap (λ (l : List (Option Value)). kept_value old (by_number ps m) g ∷ l) rest.0,
-        first.1,
-        rest.1,
+        ap (λ (k : Option Value). k ∷ map (kept_value old m) gs) first.0
+            ∙ ap (λ (l : List (Option Value)). kept_value old (by_number ps m) g ∷ l) rest.0,
+        (first.1, rest.1),
       )
 
 module _ (o : Outside) (pairing : IsPairing (pairs_in o) (heap.memory o.heap)) (typed : IsShared (shown o)) (old new : Program) where
