@@ -17,10 +17,10 @@ use Rattle.kt_mem.specs.declared.steps.Trap.{Trap}
 use Rattle.kt_mem.specs.declared.steps.Trap.TheVariants as trap
 use Rattle.kt_mem.specs.Memory.{Memory, Object, Cell, load, store, waits}
 use Rattle.kt_mem.specs.Values.{ty_eq}
-use Rattle.kt_meaning.specs.Effects.{Shared, Outcome, Replies, Waits, leaves, reads, writes, followed, and_rest, text_with, text_of, text_in, text_at, piece_text, pieces_text}
+use Rattle.kt_meaning.specs.Effects.{Shared, Outcome, Replies, Waits, leaves, reads, writes, and_rest, text_with, text_of, text_in, text_at, piece_text, pieces_text}
 use Rattle.kt_heap.specs.Heap as heap
 use Rattle.kt_heap.specs.Heap.{IsPairing}
-use Rattle.kt_heap.specs.ByNumber.{Pairs, number_of, name_by_number, value_by_number, cell_by_number, object_by_number, by_number, answer_by, WasGiven, HoldsGiven, ActsByNumber}
+use Rattle.kt_heap.specs.ByNumber.{Pairs, number_of, value_by_number, cell_by_number, object_by_number, by_number, answer_by, WasGiven, HoldsGiven, ActsByNumber}
 use Rattle.kt_heap.proofs.NumberLaws.{loads_by_number, stores_by_number, waits_by_number, looks_by_number}
 use Rattle.kt_heap.proofs.GivenLaws.{loads_given, stores_given}
 use Rattle.kt_exec.specs.Renaming.{IsOld, NameIn, ValueIn, PieceIn, PiecesIn, ReplyIn, rename_name, rename_value, rename_piece, rename_pieces}

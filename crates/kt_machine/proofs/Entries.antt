@@ -1,5 +1,5 @@
 -- States at the entry of `main` name no heap object, and where nothing was given out a state is the same by heap number.
-use Rattle.std.specs.Prelude.{◌≡◌, ℕ, zero, suc, ◌-◌, List, [], ◌∷◌, ◌++◌, length, map, replicate, Option, None, Some, slice_get, refl}
+use Rattle.std.specs.Prelude.{◌≡◌, ℕ, zero, suc, ◌-◌, List, [], ◌∷◌, length, replicate, Option, None, Some, slice_get, refl}
 use Rattle.std.proofs.Common.{sym, ap, subst, ◌∙◌}
 use Rattle.kt_tree.specs.Tree.{Function}
 use Rattle.kt_mem.specs.declared.memory.Name.TheVariants.{Glob, Lit, Heap}
@@ -12,13 +12,12 @@ use Rattle.kt_code.specs.Settling.{settle}
 use Rattle.kt_code.specs.declared.frame.Frame.{Frame}
 use Rattle.kt_code.specs.declared.private.Private.{Private}
 use Rattle.kt_heap.specs.ByNumber.{number_of}
-use Rattle.kt_exec.specs.Renaming.{IsOld, PrivateIn, ValuesIn, rename_value, rename_values, rename_frame, rename_frames, rename_kept_local, rename_kept}
+use Rattle.kt_exec.specs.Renaming.{IsOld, PrivateIn, ValuesIn, rename_value, rename_values, rename_frames, rename_kept}
 use Rattle.kt_exec.proofs.Renamed.{settles-among}
 use Rattle.kt_pair.specs.Pair.{Pair}
 use Rattle.kt_lone.specs.Turn.{main_of}
 use Rattle.kt_machine.specs.ByNumber.{private_by}
 use Rattle.kt_machine.specs.Engine.{code_entry, entry_at, entry_of}
-use Rattle.kt_machine.proofs.Names.{private-among}
 
 -- ---- nothing was given out
 

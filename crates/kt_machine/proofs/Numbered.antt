@@ -1,6 +1,6 @@
 -- A thread by heap number does what the thread does by address.
 use Rattle.std.specs.Prelude.{◌≡◌, ℕ, Option, None, Some, refl}
-use Rattle.std.proofs.Common.{sym, ap, subst, ◌∙◌}
+use Rattle.std.proofs.Common.{ap, subst, ◌∙◌}
 use Rattle.kt_mem.specs.declared.steps.Reply.{Reply}
 use Rattle.kt_mem.specs.declared.steps.Trap.TheVariants as trap
 use Rattle.kt_meaning.specs.Steps.{after_reply}

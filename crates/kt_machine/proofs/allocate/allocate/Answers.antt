@@ -1,8 +1,7 @@
 use Rattle.std.proofs.Common.{◌≡◌, ℤ, length, sym, ◌∙◌, subst, ap, arith, w64}
 use Rattle.std.proofs.lemmas.Int.{to_z-of_z}
-use Rattle.kt_heap.specs.ByNumber.{Pairs, by_number, HoldsGiven}
+use Rattle.kt_heap.specs.ByNumber.{Pairs, by_number}
 use Rattle.kt_heap.specs.Heap.{memory, given}
-use Rattle.kt_heap.proofs.GivenLaws.{allocs_given}
 use Rattle.kt_heap.proofs.NumberLaws.{allocs_by_number}
 use Rattle.kt_mem.specs.declared.memory.Name.TheVariants.{Heap}
 use Rattle.kt_mem.specs.declared.memory.Value.TheVariants.{Ptr}
@@ -15,7 +14,7 @@ use Rattle.kt_exec.specs.Renaming.{IsOld}
 use Rattle.kt_machine.specs.ByNumber.{reply_by}
 use Rattle.kt_machine.proofs.Allocations.{failed-makes, given-after, made-makes, numbered-made}
 use Rattle.kt_machine.proofs.Memory.{made-literals}
-use Rattle.kt_machine.proofs.Names.{number-last, pushed-grows, pushed-old, same-grows}
+use Rattle.kt_machine.proofs.Names.{pushed-grows, pushed-old}
 use Rattle.kt_machine.proofs.allocate.allocate.Goals as goal
 
 pub returns-in_default-clause-made : goal.returns-in_default-clause-made

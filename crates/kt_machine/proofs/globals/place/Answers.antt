@@ -1,5 +1,4 @@
-use Rattle.std.proofs.Common.{◌≡◌, None, Option, get_or, ◌∙◌, ap, subst}
-use Rattle.kt_mem.specs.declared.memory.Value.{Value}
+use Rattle.std.proofs.Common.{None, get_or, ◌∙◌, ap}
 use Rattle.kt_mem.specs.Memory.{Memory}
 use Rattle.kt_heap.specs.ByNumber.{by_number}
 use Rattle.kt_heap.specs.Heap.{memory, given}

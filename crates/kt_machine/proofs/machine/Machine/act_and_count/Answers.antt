@@ -3,7 +3,6 @@ use Rattle.kt_code.specs.declared.private.Private.{Private}
 use Rattle.kt_meaning.specs.Laws.{IsShared}
 use Rattle.kt_lone.specs.Turn.{counted}
 use Rattle.kt_lone.specs.World.{World, outside_of}
-use Rattle.kt_machine.specs.Engine.{world_of}
 use Rattle.kt_machine.proofs.Threads.{world-shared}
 use Rattle.kt_machine.proofs.machine.Machine.act_and_count.Goals as goal
 

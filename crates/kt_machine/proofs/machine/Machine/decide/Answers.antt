@@ -1,9 +1,9 @@
-use Rattle.std.proofs.Common.{◌+◌, ◌<◌, sym, subst, ap, length, slice_get}
+use Rattle.std.proofs.Common.{◌+◌, ◌<◌, sym, subst, ap, length}
 use Rattle.kt_lone.specs.Plain.{job_of}
 use Rattle.kt_lone.specs.Turn.{has_ended}
 use Rattle.kt_lone.specs.World.{Shared}
 use Rattle.kt_machine.specs.Engine.{standing_of}
-use Rattle.kt_machine.proofs.Acting.{both-ok, on-ok}
+use Rattle.kt_machine.proofs.Acting.{on-ok}
 use Rattle.kt_machine.proofs.Closings.{decided-restart, decided-refuse, decided-ended}
 use Rattle.kt_machine.proofs.Codes.{code-within}
 use Rattle.kt_machine.proofs.Threads.{ended-kept, stands-numbered}

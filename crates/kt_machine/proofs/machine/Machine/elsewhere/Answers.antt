@@ -1,9 +1,7 @@
 use Rattle.std.proofs.Common.{rules, ◌≡◌, Some, sym, ap, ◌∙◌}
-use Rattle.kt_mem.specs.declared.steps.Act.TheVariants.{MainReturn}
 use Rattle.kt_code.specs.declared.private.Head.{Head}
 use Rattle.kt_code.specs.declared.private.Head.TheVariants.{Act}
 use Rattle.kt_lone.specs.declared.mark.End.TheVariants as end
-use Rattle.kt_lone.specs.World.{Shared}
 use Rattle.kt_machine.specs.Acts.{elsewhere_at, left_at}
 use Rattle.kt_machine.specs.Engine.{code_engine, thread_of, world_of}
 use Rattle.kt_machine.specs.Shared.{shared_of}

@@ -10,7 +10,7 @@ use Rattle.kt_machine.specs.declared.machine.Machine.{Machine}
 use Rattle.kt_machine.specs.declared.machine.Standing.TheVariants as standing
 use Rattle.kt_machine.specs.Engine.{standing_of}
 use Rattle.kt_machine.specs.Shared.{Shared}
-use Rattle.kt_machine.proofs.Acting.{both-ok, on-ok}
+use Rattle.kt_machine.proofs.Acting.{both-ok}
 use Rattle.kt_machine.proofs.Threads.{gone-live, refused-world, replied-state}
 use Rattle.kt_machine.proofs.machine.Machine.refuse.Goals as goal
 

@@ -1,4 +1,4 @@
-use Rattle.std.proofs.Common.{Some, sym, ap, ◌∙◌, slice_get}
+use Rattle.std.proofs.Common.{sym, ap, ◌∙◌, slice_get}
 use Rattle.kt_code.specs.Code.{Code}
 use Rattle.kt_code.specs.Machine.{step}
 use Rattle.kt_code.specs.Settling.{settle}
@@ -6,7 +6,7 @@ use Rattle.kt_meaning.specs.Steps.{after_reply}
 use Rattle.kt_lone.specs.Turn.{has_ended}
 use Rattle.kt_machine.specs.Engine.{standing_of}
 use Rattle.kt_machine.specs.Shared.{Shared}
-use Rattle.kt_machine.proofs.Acting.{both-ok, on-ok}
+use Rattle.kt_machine.proofs.Acting.{on-ok}
 use Rattle.kt_machine.proofs.Threads.{answered-world, goes-act, goes-fits, goes-reply, is-answer, replied-state, settled-gone}
 use Rattle.kt_machine.proofs.machine.Machine.reply.Goals as goal
 

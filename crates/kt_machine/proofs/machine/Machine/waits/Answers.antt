@@ -1,4 +1,4 @@
-use Rattle.std.proofs.Common.{Some, Option, sym, subst, ap, ◌∙◌, slice_get}
+use Rattle.std.proofs.Common.{Some, sym, subst, ap, ◌∙◌, slice_get}
 use Rattle.kt_code.specs.declared.private.Head.{Head}
 use Rattle.kt_heap.specs.ByNumber.{number_of}
 use Rattle.kt_heap.specs.Heap.{State, memory}

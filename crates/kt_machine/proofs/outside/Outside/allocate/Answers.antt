@@ -1,4 +1,4 @@
-use Rattle.std.proofs.Common.{◌≡◌, ℤ, drop, sym, subst, to_z, of_z, w64}
+use Rattle.std.proofs.Common.{◌≡◌, ℤ, drop, subst, to_z, of_z, w64}
 use Rattle.std.proofs.lemmas.Int.{to_z-of_z}
 use Rattle.std.proofs.lemmas.Result.{IfOk-weaker}
 use Rattle.kt_heap.specs.ByNumber.{by_number}

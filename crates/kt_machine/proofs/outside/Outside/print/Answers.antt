@@ -1,12 +1,7 @@
-use Rattle.std.proofs.Common.{◌≡◌, ◌∙◌, ap, drop, sym, subst}
-use Rattle.std.proofs.lemmas.Result.{IfOk-weaker}
-use Rattle.kt_heap.specs.ByNumber.{number_of}
-use Rattle.kt_heap.specs.Heap.{memory, given}
-use Rattle.kt_mem.specs.declared.steps.Reply.{Reply}
-use Rattle.kt_meaning.specs.Effects.{Replies, Shared, pieces_text, writes}
-use Rattle.kt_exec.specs.Renaming.{IsOld, PiecesIn, ReplyIn, rename_pieces}
-use Rattle.kt_machine.specs.ByNumber.{reply_by}
-use Rattle.kt_machine.specs.Outside.{Outside, pairs_in, shown}
+use Rattle.std.proofs.Common.{drop, sym, subst}
+use Rattle.kt_heap.specs.Heap.{given}
+use Rattle.kt_exec.specs.Renaming.{IsOld, PiecesIn}
+use Rattle.kt_machine.specs.Outside.{Outside, pairs_in}
 use Rattle.kt_machine.proofs.ByAddress.{pieces-written, plain-in}
 use Rattle.kt_machine.proofs.outside.Outside.print.Goals as goal
 
