@@ -1,6 +1,7 @@
 //! What C files and rule files share: symbols, expressions, and reading them from the left.
 #![tactic(auto)]
 
+mod condition;
 mod cursor;
 mod fault;
 mod head;
@@ -17,11 +18,14 @@ mod spelled;
 mod stands;
 mod stands_for;
 mod symbol;
+mod syntax_fault;
+mod told;
 mod tree;
 mod types;
 mod unary;
 mod word;
 
+pub use condition::{behind_else, condition, deep_expr, refusal};
 pub use cursor::{begins_sign, behind, behind_first, count_sign, name};
 pub use fault::{Fault, beside};
 pub use keyword::{Keyword, RuleWord};
@@ -35,6 +39,8 @@ pub use spelled::is_identifier;
 pub use stands::{expr_fault_law, expr_goes_on_law, expr_stands_law};
 pub use stands_for::symbols;
 pub use symbol::Symbol;
+pub use syntax_fault::SyntaxFault;
+pub use told::told;
 pub use tree::{Base, Expr, Name, TypeName};
 pub use types::{bare_base, base, begins_base, type_name};
 pub use word::Word;
