@@ -26,3 +26,4 @@ pub mod FaultsAreThere
 pub mod OneAnswer
 pub mod DepthsAgree
 pub mod Told
+pub mod Fresh

@@ -41,6 +41,6 @@ pub use stands_for::symbols;
 pub use symbol::Symbol;
 pub use syntax_fault::SyntaxFault;
 pub use told::told;
-pub use tree::{Base, Expr, Name, TypeName};
+pub use tree::{Base, Expr, Fresh, Name, TypeName};
 pub use types::{bare_base, base, begins_base, type_name};
 pub use word::Word;
