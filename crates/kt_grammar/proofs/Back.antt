@@ -33,7 +33,7 @@ use Rattle.kt_grammar.specs.Cut.{cut}
 use Rattle.kt_grammar.specs.CutLaws.{cut-bind, cut-kept, cut-joined, cut-first, cut-token, cut-then, cut-end, cut-none, begins-append, begins-at, symbols_of-rest}
 use Rattle.kt_grammar.specs.BackLaws.{closes, needs-closing, sign-back, name-back, type-cut, type-begins, listed-last, listed-more}
 use Rattle.kt_grammar.proofs.Beginnings.{expr_begins}
-use Rattle.kt_grammar.proofs.Fresh.{fresh-back}
+use Rattle.kt_grammar.proofs.NewObjects.{fresh-back}
 use Rattle.kt_grammar.proofs.Fronts.{Quiet, quiet, question-quiet, stop, stop-le, stop-mono, stop-above, needs_7, needs-postfix, no_call, no_postfix, nothing_of_base, nothing_closed, needs-binary, needs-assign, needs-question, prefix_of-sign, prefix_sign-closed, assign_of-sign, precedence-bounds, binary_here-low, binary_here-high}
 use Rattle.kt_grammar.proofs.Resuming.{after_postfix, after_postfix-step, after_chain, after_chain-none, after_chain-step, operand_at, climbing, resume, resume-postfix, resume-chain, resume-quiet}
 

@@ -9,4 +9,4 @@ pub deep_expr-suc : (g : Dialect) (n : ℕ) (symbols : List Symbol) → 0 < n �
 deep_expr-suc g zero symbols lt = absurd (omega arith)
 deep_expr-suc g (suc n) symbols lt = let e : suc n - 1 ≡ n = omega arith in rw e refl
 
-pub ruleset deeper = (deep_expr-suc,)
+pub ruleset deeper = (deep_expr-suc)

@@ -26,7 +26,7 @@ use Rattle.kt_grammar.specs.StandsLaws.{chosen, both_true, same_sign_is, token_s
 use Rattle.kt_grammar.specs.FaultLaws.{no_fault, bind_err, unexpected_stands, too_deep_stands, fault_as, fault_before, fault_behind, sign_mark, behind_fault, blank_name, name_mark, some_name, name_at_fault, base_mark, some_type, is_blank_type, type_at_fault, between_at_fault, listed_at_fault}
 use Rattle.kt_grammar.proofs.Operators.{picked, prefix_of-is, step_of-is, sign_is_stands, binary_here-is, assign_here-is}
 use Rattle.kt_grammar.proofs.ExprStands.{continues, LevelStands, GoesOn, IsSound, AreSound, continued, deep-is, deep_level-is, index_once, member_once, pointed_once, step_once, no_links, operated, deeper_link, chain_once, tail_at-is, listed_terms, primary_at-is, unary_at-is, deeper-is, listed_arguments}
-use Rattle.kt_grammar.proofs.Fresh.{some_fresh, fresh_blank, fresh_at_stands, fresh_at_fault}
+use Rattle.kt_grammar.proofs.NewObjects.{some_fresh, fresh_blank, fresh_at_stands, fresh_at_fault}
 
 -- what makes of an expression any of at least a level
 abbrev some_more : Dialect → ℕ → ℕ → Term → List Mark → Type 0

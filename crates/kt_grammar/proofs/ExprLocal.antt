@@ -18,7 +18,7 @@ use Rattle.kt_grammar.specs.Reading.{Readers, begins_expr, begins_postfix, deep,
 use Rattle.kt_grammar.specs.Laws.{ExprIsLocal}
 use Rattle.kt_grammar.specs.Local.{IsLocal}
 use Rattle.kt_grammar.specs.LocalLaws.{IsLocalFrom, IsFirst, then_local, gives_local, unexpected_local, too_deep_local, taken, untaken, by_first, dropped, either_from, and_first, if_local, option_local, begins_sign-first, behind_local, name_at-local, begins_base-first, begins_expr-first, refused_local, type_at-local, between_at-local, listed_local}
-use Rattle.kt_grammar.proofs.Fresh.{fresh_at-local}
+use Rattle.kt_grammar.proofs.NewObjects.{fresh_at-local}
 
 -- ---- first symbols
 

@@ -21,7 +21,7 @@ use Rattle.kt_grammar.specs.Reading.{Readers, begins_base, begins_expr, begins_p
 use Rattle.kt_grammar.specs.Laws.{Stands, ExprStands}
 use Rattle.kt_grammar.specs.StandsLaws.{no_value, by_value, bind_ok, chosen, chosen_first, chosen_second, both_true, same_sign_is, nothing_stands, token_stands, stands_joined, stands_as, stands_when, begins_sign_stands, behind_stands, name_at_stands, type_at_stands, between_at_stands, listed, listed_at_stands}
 use Rattle.kt_grammar.proofs.Operators.{picked, prefix_of-is, step_of-is, sign_is_stands, binary_here-is, assign_here-is}
-use Rattle.kt_grammar.proofs.Fresh.{fresh_at_stands}
+use Rattle.kt_grammar.proofs.NewObjects.{fresh_at_stands}
 
 -- what stands behind an expression and makes another of it
 abbrev pub continues : Dialect → ℕ → Term → Term → List Mark → Type 0

@@ -25,5 +25,5 @@ pub mod ItemTexts
 pub mod FaultsAreThere
 pub mod OneAnswer
 pub mod DepthsAgree
-pub mod Told
-pub mod Fresh
+pub mod FaultsAreTold
+pub mod NewObjects

@@ -1,0 +1,11 @@
+pub mod Nodes
+pub mod Deep
+pub mod Ends
+pub mod Fronts
+pub mod Acts
+pub mod RulesBack
+pub mod ActStands
+pub mod RuleStands
+pub mod ActFaults
+pub mod RuleFaults
+pub mod RulesLocal
