@@ -1,8 +1,7 @@
 -- Expressions one deeper, and in parentheses: they are read back, what is read stands there, what is not breaks off where it is told,
 -- and what is read is decided by the symbols that were read.
-use Rattle.std.proofs.Common.{◌≡◌, ℕ, zero, suc, ◌+◌, ◌≤◌, inl, inr, Bool, true, false, cond, not, List, [], ◌∷◌, ◌++◌, Option, Some, None, Ok, Err, refl, sym, ap, subst, ◌∙◌, arith}
+use Rattle.std.proofs.Common.{◌≡◌, ℕ, zero, suc, ◌+◌, ◌≤◌, inl, inr, Bool, true, false, not, List, [], ◌∷◌, ◌++◌, Some, None, Ok, refl, sym, ap, subst, ◌∙◌, arith}
 use Rattle.std.proofs.lemmas.Option.{same_Some}
-use Rattle.kt_grammar.specs.declared.fault.Fault.{Fault}
 use Rattle.kt_grammar.specs.declared.keyword.Keyword.{Keyword}
 use Rattle.kt_grammar.specs.declared.keyword.Keyword.TheVariants as keywords
 use Rattle.kt_grammar.specs.declared.operator.Dialect.{Dialect}
@@ -13,9 +12,9 @@ use Rattle.kt_grammar.specs.declared.symbol.Symbol.{Symbol}
 use Rattle.kt_grammar.specs.declared.symbol.Symbol.TheVariants as symbol
 use Rattle.kt_grammar.specs.Tree.{Term, Named}
 use Rattle.kt_grammar.specs.Signs.{step_of, assign_of, binary_of}
-use Rattle.kt_grammar.specs.Marks.{Mark, Joined, sign, keyword, token, symbols_of, ◌·◌}
+use Rattle.kt_grammar.specs.Marks.{Mark, sign, keyword, symbols_of, ◌·◌}
 use Rattle.kt_grammar.specs.Spelling.{between, spells}
-use Rattle.kt_grammar.specs.Cursor.{◌>>=◌, Outcome, begins_sign, behind}
+use Rattle.kt_grammar.specs.Cursor.{begins_sign, behind}
 use Rattle.kt_grammar.specs.Reading.{begins_expr, begins_postfix, expr_at}
 use Rattle.kt_grammar.specs.Cut.{cut}
 use Rattle.kt_grammar.specs.Laws.{needs, Stands, FaultStands, some_expr, ExprIsReadBack, ExprBegins, ExprStands, ExprFaultStands, ExprGoesOn, ExprIsLocal}

@@ -5,11 +5,10 @@ use Rattle.kt_grammar.specs.declared.fault.Fault.{Fault}
 use Rattle.kt_grammar.specs.declared.sign.Sign.TheVariants as signs
 use Rattle.kt_grammar.specs.declared.symbol.Symbol.{Symbol}
 use Rattle.kt_grammar.specs.declared.symbol.Symbol.TheVariants as symbol
-use Rattle.kt_grammar.specs.declared.tree.TypeName.{TypeName}
 use Rattle.kt_grammar.specs.declared.tree.Fresh.{Fresh}
 use Rattle.kt_grammar.specs.Marks.{Mark, token, sign, symbols_of, ◌·◌}
-use Rattle.kt_grammar.specs.Spelling.{spells_type, spells_fresh}
-use Rattle.kt_grammar.specs.Cursor.{◌>>=◌, begins_sign, behind}
+use Rattle.kt_grammar.specs.Spelling.{spells_fresh}
+use Rattle.kt_grammar.specs.Cursor.{begins_sign, behind}
 use Rattle.kt_grammar.specs.Reading.{type_at, number_at, fresh_at}
 use Rattle.kt_grammar.specs.Cut.{cut}
 use Rattle.kt_grammar.specs.Laws.{Stands, FaultStands}

@@ -16,7 +16,7 @@ use Rattle.kt_grammar.specs.Reading.{begins_expr, begins_postfix, expr_at}
 use Rattle.kt_grammar.specs.Cut.{cut}
 use Rattle.kt_grammar.specs.Laws.{needs, Begins, ExprIsReadBack, ExprBegins}
 use Rattle.kt_grammar.specs.CutLaws.{begins-at, begins-append, begins-token, begins-weaker, cut-none}
-use Rattle.kt_grammar.specs.BackLaws.{begins_sign-self}
+use Rattle.kt_grammar.specs.BackLaws.{same_sign-self}
 use Rattle.kt_grammar.specs.Conditions.{deep_expr_at, condition_at, behind_else}
 use Rattle.kt_grammar.proofs.Parts.{part-then, part-end, sign-then, sign-end, token-then, token-end, none-end, none-then, signed, worded, first-end, first-then}
 use Rattle.kt_grammar.proofs.ListsBack.{joined-length, begins-length, until-stop, until-more}
@@ -190,8 +190,8 @@ mutual
 -- ---- bodies
 
 sign_at-back : (limit at : ℕ) (s : Sign) (marks : List Mark) (rest : List Symbol) → token 0 (symbol.Sign at s) marks → sign_at s (symbols_of marks ++ rest) ≡ cut limit marks rest (Ok (at, rest))
-unfolding sign_at begins_sign
-sign_at-back limit at s marks rest is = token-end (sign_at s) rest _ is (omega arith) (rw (begins_sign-self at s rest) refl)
+unfolding sign_at
+sign_at-back limit at s marks rest is = token-end (sign_at s) rest _ is (omega arith) (rw (same_sign-self s) refl)
 
 pub code-back : ExprIsReadBack → ExprBegins → (n : ℕ) (c : Code) (marks : List Mark) (rest : List Symbol) → code c marks → code_at n (symbols_of marks ++ rest) ≡ cut n marks rest (Ok (c, rest))
 unfolding code_at begins_sign

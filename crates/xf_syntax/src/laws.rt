@@ -5,9 +5,7 @@ ghost use Rattle.kt_grammar.specs.TextLaws.{IsReadBack, IsRead, TextStands, Text
 ghost use Rattle.xf_syntax.specs.Spelling.{rules};
 ghost use Rattle.xf_syntax.specs.Reading.{rules_at};
 
-use kt_grammar::{
-    expr_fault_law, expr_goes_on_law, expr_laws, expr_local_law, expr_stands_law,
-};
+use kt_grammar::{expr_fault_law, expr_goes_on_law, expr_laws, expr_local_law, expr_stands_law};
 
 /// A rule file that is spelled is read back, unless a token of it is too deep; within the limit it is read, and it has one tree.
 pub fn rules_laws()

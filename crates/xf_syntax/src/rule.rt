@@ -9,9 +9,7 @@ ghost use Rattle.xf_syntax.specs.Reading.{moved_behind, paired_behind, struct_be
 use super::body::ending;
 use super::side::{field_behind, named_behind, side, struct_name, target};
 use super::tree::{RuleItem, Side, StructName};
-use kt_grammar::{
-    Fault, Keyword, Sign, Symbol, begins_sign, behind, behind_first, beside, name,
-};
+use kt_grammar::{Fault, Keyword, Sign, Symbol, begins_sign, behind, behind_first, beside, name};
 use sqlite_items::Items;
 use std::alloc::Global;
 
@@ -101,11 +99,7 @@ fn is_end(symbols: &[Symbol]) -> bool
 
 /// The rules of a file.
 #[tactic(auto, using(crate::proofs::Ends::nothing_left), unfolding(crate::specs::Reading::rules_at))]
-pub(crate) fn rules(
-    alloc: Global,
-    depth: u32,
-    symbols: &[Symbol],
-) -> Result<Items<RuleItem>, Fault>
+pub(crate) fn rules(alloc: Global, depth: u32, symbols: &[Symbol]) -> Result<Items<RuleItem>, Fault>
     ensures read { Gives (λ x. (map rule_of x, [])) result (rules_at depth symbols.now) }
 {
     let mut done = Items::new(alloc);

@@ -11,10 +11,7 @@ use kt_grammar::{
 
 /// A field behind the name of its struct.
 #[tactic(auto, unfolding(crate::specs::Reading::field_behind))]
-pub(crate) fn field_behind(
-    of: StructName,
-    symbols: &[Symbol],
-) -> Result<(Target, &[Symbol]), Fault>
+pub(crate) fn field_behind(of: StructName, symbols: &[Symbol]) -> Result<(Target, &[Symbol]), Fault>
     ensures read { Gives (λ x. (x.0, x.1.now)) result (field_behind of symbols.now) }
     ensures shorter { IfOk result (λ x. length x.1.now < length symbols.now) }
 {
