@@ -7,12 +7,12 @@ use std::test::Fail;
 /// What stands first, what opens, what is inside, what closes, behind bars: that many times it may be opened, and the place of the
 /// token that is too deep where it is opened once more.
 const ROWS: &str = "\
-x->y:{|{||}|}|199|205
+x->y:{|{||}|}|200|206
 x->y:{|{|;|}|}|199|206
 x->y:{$out=|(|1|)|;}|198|210
 x->y:{|(|$out|)|=1;}|199|206
-x->y:{|if(1)|;||}|199|1006
-x->y:{|if(1);else |;||}|199|2206
+x->y:{|if(1)|;||}|199|1004
+x->y:{|if(1);else |;||}|199|2198
 x->y:{$out=1|+1|||;}|198|410
 x->y:{$out=|!|1||;}|198|210
 x->y:{if(|-|1||);}|198|208

@@ -5,7 +5,6 @@ use std::alloc::{AllocError, Global};
 use std::test::Fail;
 
 const TREES: &str = "\
- => 1
 struct node -> struct item; => struct@0 node to struct@15 item / 28
 INIT g; => init g@5 / 8
 INIT struct node.t: { $out = $new(struct info *, 12); } => init struct@5 node.t 20-54 [$out = $new@29 struct info 1 12@49;] / 56
@@ -17,6 +16,7 @@ x->y:{if(1)if(2);else{;;$out=3;}} => x@0 to y@3 5-32 [if 1 if 2 ; else [;;$out =
 x->y:{if(1){if(2);}else;} => x@0 to y@3 5-24 [if 1 [if 2 ;] else ;] / 26
 x->y:{$base=$oldsym(q);} => x@0 to y@3 5-23 [$base = $oldsym@12 q;] / 25
 a->b;INIT c; => a@0 to b@3 / init c@10 / 13
+ => 1
 ";
 
 /// The first row whose text has another tree, with that.
