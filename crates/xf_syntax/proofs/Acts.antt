@@ -196,9 +196,11 @@ sign_at-back limit at s marks rest is = token-end (sign_at s) rest _ is (omega a
 pub code-back : ExprIsReadBack → ExprBegins → (n : ℕ) (c : Code) (marks : List Mark) (rest : List Symbol) → code c marks → code_at n (symbols_of marks ++ rest) ≡ cut n marks rest (Ok (c, rest))
 unfolding code_at begins_sign
 code-back back begins n c marks rest is =
+    let whole : 0 + n ≡ n = omega arith in
     let j = is.second in
     part-then (sign_at signs.OpenBrace) _ n rest _ is (sign_at-back n c.first signs.OpenBrace is.front (symbols_of is.back ++ rest) is.first)
     (part-then (block_at (blocks n)) _ n rest _ j
-    (block-front begins c.actions (acts-back back begins c.actions) n 0 j.front (symbols_of j.back ++ rest) j.first (first-end (λ r. begins_sign signs.CloseBrace r ≡ true) rest j.second refl))
+    (block-front begins c.actions (acts-back back begins c.actions) n 0 j.front (symbols_of j.back ++ rest) j.first (first-end (λ r. begins_sign signs.CloseBrace r ≡ true) rest j.second refl)
+    ∙ ap (λ l. cut l j.front (symbols_of j.back ++ rest) (Ok (list_of c.actions, symbols_of j.back ++ rest))) whole)
     (part-end (sign_at signs.CloseBrace) _ n j.back rest (sign_at-back n c.last signs.CloseBrace j.back rest j.second)
     (ap (λ es. Ok (record { first = c.first; last = c.last; actions = es }, rest)) (actions_of-list c.actions))))

@@ -2,6 +2,8 @@ pub mod Nodes
 pub mod Deep
 pub mod Ends
 pub mod Fronts
+pub mod Signs
+pub mod Loops
 pub mod Acts
 pub mod RulesBack
 pub mod ActStands

@@ -1,5 +1,5 @@
 -- Texts with a common front are read as rule files alike, up to the end of that front.
-use Rattle.std.proofs.Common.{◌≡◌, ℕ, zero, suc, List, [], ◌∷◌, Option, Some, None, refl, le_refl}
+use Rattle.std.proofs.Common.{◌≡◌, ℕ, zero, suc, List, [], ◌∷◌, Option, Some, None, Ok, refl, le_refl}
 use Rattle.kt_grammar.specs.declared.keyword.Keyword.TheVariants as keywords
 use Rattle.kt_grammar.specs.declared.operator.Dialect.TheVariants.{Rules}
 use Rattle.kt_grammar.specs.declared.sign.Sign.{Sign}
@@ -48,7 +48,7 @@ target_at-local = by_first (le_refl 0) some
   where
     some : (s : Symbol) → IsLocalFrom s (λ symbols. target_at (s ∷ symbols))
     some (symbol.Keyword at keywords.Struct) = taken (field_at-local at)
-    some _ = untaken (then_local _ name_at-local (λ g. gives_local (target.Global g)))
+    some _ = untaken (then_local (λ g. Ok (target.Global g.0, g.1)) name_at-local (λ g. gives_local (target.Global g)))
 
 named_behind-local : (n : Name) → IsLocal (named_behind n)
 unfolding named_behind
@@ -60,7 +60,7 @@ side_at-local = by_first (le_refl 0) some
   where
     some : (s : Symbol) → IsLocalFrom s (λ symbols. side_at (s ∷ symbols))
     some (symbol.Keyword at keywords.Struct) = taken (then_local _ (field_at-local at) (λ t. gives_local (side.Target t)))
-    some _ = untaken (then_local _ name_at-local (λ n. named_behind-local n))
+    some _ = untaken (then_local (λ n. named_behind n.0 n.1) name_at-local (λ n. named_behind-local n))
 
 struct_name_at-local : IsLocal struct_name_at
 unfolding struct_name_at
@@ -77,7 +77,7 @@ unfolding begins_if
 begins_if-first = record { same = same }
   where
     same : (s : Symbol) (rest other : List Symbol) → begins_if (s ∷ rest) ≡ begins_if (s ∷ other)
-    same (symbol.Keyword at k) rest other = refl
+    same (symbol.Keyword at keywords.If) rest other = refl
     same _ rest other = refl
 
 begins_act-first : IsFirst begins_act

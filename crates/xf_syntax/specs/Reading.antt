@@ -90,6 +90,11 @@ blocks (suc n) = let b = blocks n in Some (record { act = act_at n b; acts = act
 
 -- ---- bodies
 
+-- the place of the sign at the front; 0 where none is
+abbrev pub sign_place : List Symbol → ℕ
+sign_place (symbol.Sign at s ∷ rest) = at
+sign_place _ = 0
+
 -- a sign and its place
 unfoldable pub sign_at : Sign → List Symbol → Outcome ℕ
 sign_at s (symbol.Sign at t ∷ rest) = if same_sign t s then Ok (at, rest) else unexpected (symbol.Sign at t ∷ rest)

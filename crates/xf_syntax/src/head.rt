@@ -3,12 +3,12 @@
 ghost use Rattle.std.specs.Prelude.{◌≡◌, ◌<◌, length, IfOk};
 ghost use Rattle.kt_grammar.specs.Cursor.{Gives};
 ghost use Rattle.xf_syntax.specs.Tree.{action_of};
-ghost use Rattle.xf_syntax.specs.Reading.{begins_if, begins_act, assigned_at, sign_at};
+ghost use Rattle.xf_syntax.specs.Reading.{begins_if, begins_act, assigned_at, sign_place, sign_at};
 
 use super::tree::Act;
 use kt_grammar::{
-    Dialect, Fault, Keyword, Sign, Symbol, begins_expr, begins_sign, behind, beside, deep_expr,
-    expr,
+    Dialect, Fault, Keyword, Sign, Symbol, begins_expr, begins_sign, behind, behind_first, beside,
+    deep_expr, expr,
 };
 use std::alloc::Global;
 
@@ -47,7 +47,7 @@ pub(crate) fn assigned(
 }
 
 /// A sign's place, and the symbols behind it.
-#[tactic(auto, unfolding(crate::specs::Reading::sign_at))]
+#[tactic(auto, using(crate::proofs::Signs::signs))]
 pub(crate) fn sign(sign: Sign, symbols: &[Symbol]) -> Result<(u32, &[Symbol]), Fault>
     ensures read { Gives (λ x. (x.0, x.1.now)) result (sign_at sign symbols.now) }
     ensures shorter { IfOk result (λ x. length x.1.now < length symbols.now) }
@@ -55,8 +55,15 @@ pub(crate) fn sign(sign: Sign, symbols: &[Symbol]) -> Result<(u32, &[Symbol]), F
     if !begins_sign(sign, symbols) {
         return Err(Fault::Syntax(symbols.len()));
     }
+    Ok((place(symbols), behind_first(symbols)))
+}
+
+/// The place of the sign that the first symbol is.
+fn place(symbols: &[Symbol]) -> u32
+    ensures { result ≡ sign_place symbols.now }
+{
     match symbols {
-        [Symbol::Sign(at, _), rest @ ..] => Ok((*at, rest)),
-        _ => Err(Fault::Syntax(symbols.len())),
+        [Symbol::Sign(at, _), ..] => *at,
+        _ => 0,
     }
 }

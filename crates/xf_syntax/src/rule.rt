@@ -98,7 +98,7 @@ fn is_end(symbols: &[Symbol]) -> bool
 }
 
 /// The rules of a file.
-#[tactic(auto, using(crate::proofs::Ends::nothing_left), unfolding(crate::specs::Reading::rules_at))]
+#[tactic(auto, using(crate::proofs::Loops::rule_loop), unfolding(crate::specs::Reading::rules_at))]
 pub(crate) fn rules(alloc: Global, depth: u32, symbols: &[Symbol]) -> Result<Items<RuleItem>, Fault>
     ensures read { Gives (λ x. (map rule_of x, [])) result (rules_at depth symbols.now) }
 {

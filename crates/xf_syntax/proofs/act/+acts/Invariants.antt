@@ -1,9 +1,8 @@
-use Rattle.std.proofs.Common.{◌+◌, ◌*◌, ◌≤◌, [], length, map}
+use Rattle.std.proofs.Common.{◌+◌, ◌*◌, ◌≤◌, [], length}
 use Rattle.kt_grammar.specs.declared.sign.Sign.TheVariants as signs
 use Rattle.kt_grammar.specs.Cursor.{begins_sign, until_at}
-use Rattle.kt_grammar.proofs.ListLoops.{IsUnderWay}
-use Rattle.xf_syntax.specs.Tree.{action_of}
 use Rattle.xf_syntax.specs.Reading.{blocks, act_at}
+use Rattle.xf_syntax.proofs.Loops.{ActsUnderWay}
 use Rattle.xf_syntax.proofs.act.+acts.Given as goal
 
 abbrev pub decreases-block : goal.decreases-block
@@ -29,7 +28,7 @@ decreases-acts l = 5 * l.depth + 4
 
 abbrev pub invariant-acts-loop-alloc : goal.invariant-acts-loop-alloc
 invariant-acts-loop-alloc l =
-    IsUnderWay (until_at (begins_sign signs.CloseBrace) (act_at l.depth (blocks l.depth))) (until_at (begins_sign signs.CloseBrace) (act_at l.depth (blocks l.depth)) (length l.symbols) [] l.symbols) (map action_of l.done) l.rest
+    ActsUnderWay l.depth (blocks l.depth) (until_at (begins_sign signs.CloseBrace) (act_at l.depth (blocks l.depth)) (length l.symbols) [] l.symbols) l.done l.rest
     × (length l.rest ≤ length l.symbols)
 
 abbrev pub decreases-acts-loop-alloc : goal.decreases-acts-loop-alloc
