@@ -48,6 +48,4 @@ unfolding rules_at
 rules_fail n symbols done rest e so_far goes_on fails =
     until_fails is_end (rule_at n) (until_at is_end (rule_at n) (length symbols) [] symbols) (map rule_of done) rest e (rule-end n) so_far goes_on fails
 
-pub ruleset act_loop = (acts_more)
-
-pub ruleset rule_loop = (rules_more, rules_fail, nothing_left)
+pub ruleset rule_loop = (rules_fail, nothing_left)

@@ -105,7 +105,7 @@ fn act<'s>(alloc: Global, depth: u32, symbols: &'s [Symbol]) -> Result<(Act, &'s
 }
 
 /// Acts up to a closing brace.
-#[tactic(auto, using(crate::proofs::Loops::act_loop), unfolding(crate::specs::Reading::acts_at))]
+#[tactic(auto, unfolding(crate::specs::Reading::acts_at))]
 #[cycle(acts)]
 fn acts<'s>(
     alloc: Global,
