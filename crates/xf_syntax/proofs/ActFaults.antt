@@ -1,5 +1,5 @@
 -- Acts and bodies that are not read break off where the fault tells.
-use Rattle.std.proofs.Common.{◌≡◌, ℕ, zero, suc, ◌+◌, ◌≤◌, ◌<◌, ◌⊎◌, inl, inr, Bool, true, false, not, ◌||◌, List, [], ◌∷◌, ◌++◌, length, Option, Some, None, Ok, Err, refl, sym, ap, subst, arith}
+use Rattle.std.proofs.Common.{◌≡◌, ℕ, zero, suc, ◌+◌, ◌≤◌, ◌<◌, ◌⊎◌, inl, inr, Bool, true, false, not, ◌||◌, List, [], ◌∷◌, length, Option, Some, None, Err, refl, sym, subst, arith}
 use Rattle.kt_grammar.specs.declared.fault.Fault.{Fault}
 use Rattle.kt_grammar.specs.declared.keyword.Keyword.TheVariants as keywords
 use Rattle.kt_grammar.specs.declared.operator.Dialect.TheVariants.{Rules}
@@ -11,7 +11,7 @@ use Rattle.kt_grammar.specs.Tree.{Term}
 use Rattle.kt_grammar.specs.Signs.{same_sign}
 use Rattle.kt_grammar.specs.Marks.{Mark, token, sign, keyword, ◌·◌}
 use Rattle.kt_grammar.specs.Spelling.{spells}
-use Rattle.kt_grammar.specs.Cursor.{◌>>=◌, begins_sign, behind, until_at}
+use Rattle.kt_grammar.specs.Cursor.{begins_sign, behind}
 use Rattle.kt_grammar.specs.Reading.{begins_expr, expr_at}
 use Rattle.kt_grammar.specs.Laws.{Stands, ExprStands, FaultStands, ExprFaultStands, ExprGoesOn}
 use Rattle.kt_grammar.specs.Lists.{any}
@@ -21,7 +21,7 @@ use Rattle.kt_grammar.specs.FaultLaws.{no_fault, bind_err, unexpected_stands, fa
 use Rattle.kt_grammar.proofs.ListStands.{not_true, picked}
 use Rattle.kt_grammar.proofs.FaultSteps.{Blank, blank_joined, blank_as, sign_blank, rejoined, ReadFaults, any_stands, last_fault, parts_fault, GoesOn, refused_fault, until_at_fault}
 use Rattle.kt_grammar.proofs.Conditions.{expr_reads, deep_expr_reads, condition_reads, behind_else_stands, before_else, goes_on_as, goes_on_with, keyword_goes, sign_goes, sign_at_front, expr_begins, expr_blank, condition_blank, expr_breaks, deep_expr_breaks, condition_breaks}
-use Rattle.xf_syntax.specs.Tree.{Action, Compound, Empty, Assigned, Conditional, Alternative, Nothing, More, actions_of, Code}
+use Rattle.xf_syntax.specs.Tree.{Action, Compound, Empty, Assigned, Conditional, Alternative, Nothing, More, actions_of}
 use Rattle.xf_syntax.specs.Spelling.{ends_open, action, actions, code}
 use Rattle.xf_syntax.specs.Reading.{begins_if, begins_act, Blocks, part_at, block_at, else_at, if_behind, assigned_at, compound_behind, signed_at, act_at, acts_at, blocks, sign_at, code_at}
 use Rattle.xf_syntax.proofs.ActStands.{ActStands, AreSound, part_reads, block_reads, actions_are, within, act_reads, blocks_sound, sign_at_stands}

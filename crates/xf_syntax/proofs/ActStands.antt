@@ -1,5 +1,5 @@
 -- Acts and bodies that are read stand there, no token of them too deep.
-use Rattle.std.proofs.Common.{◌≡◌, ℕ, zero, suc, ◌+◌, ◌≤◌, inl, inr, Bool, true, false, not, List, [], ◌∷◌, length, Option, Some, None, Ok, refl, sym, ◌∙◌, subst, arith}
+use Rattle.std.proofs.Common.{◌≡◌, ℕ, zero, suc, ◌+◌, ◌≤◌, inl, inr, true, false, not, List, [], ◌∷◌, length, Option, Some, None, Ok, refl, sym, ◌∙◌, subst, arith}
 use Rattle.kt_grammar.specs.declared.keyword.Keyword.TheVariants as keywords
 use Rattle.kt_grammar.specs.declared.operator.Dialect.TheVariants.{Rules}
 use Rattle.kt_grammar.specs.declared.sign.Sign.{Sign}
@@ -8,8 +8,8 @@ use Rattle.kt_grammar.specs.declared.symbol.Symbol.{Symbol}
 use Rattle.kt_grammar.specs.declared.symbol.Symbol.TheVariants as symbol
 use Rattle.kt_grammar.specs.Tree.{Term}
 use Rattle.kt_grammar.specs.Signs.{same_sign}
-use Rattle.kt_grammar.specs.Marks.{Mark, token, sign, keyword, ◌·◌}
-use Rattle.kt_grammar.specs.Cursor.{◌>>=◌, Outcome, begins_sign, behind, until_at}
+use Rattle.kt_grammar.specs.Marks.{Mark, token}
+use Rattle.kt_grammar.specs.Cursor.{Outcome, begins_sign, behind}
 use Rattle.kt_grammar.specs.Reading.{expr_at}
 use Rattle.kt_grammar.specs.Laws.{Stands, ExprStands}
 use Rattle.kt_grammar.specs.Lists.{each}

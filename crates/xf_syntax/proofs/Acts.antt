@@ -1,5 +1,5 @@
 -- Acts and bodies that are spelled are read back.
-use Rattle.std.specs.Prelude.{◌≡◌, ℕ, zero, suc, ◌+◌, ◌≤◌, true, false, not, List, [], ◌∷◌, ◌++◌, length, Option, None, Ok}
+use Rattle.std.specs.Prelude.{◌≡◌, ℕ, zero, suc, ◌+◌, ◌≤◌, true, not, List, [], ◌∷◌, ◌++◌, length, Option, None, Ok}
 use Rattle.std.proofs.Common.{refl, sym, ap, subst, ◌∙◌, arith, append_assoc}
 use Rattle.std.proofs.lemmas.List.{append-nil}
 use Rattle.kt_grammar.specs.declared.keyword.Keyword.TheVariants as keywords
@@ -9,16 +9,16 @@ use Rattle.kt_grammar.specs.declared.sign.Sign.TheVariants as signs
 use Rattle.kt_grammar.specs.declared.symbol.Symbol.{Symbol}
 use Rattle.kt_grammar.specs.declared.symbol.Symbol.TheVariants as symbol
 use Rattle.kt_grammar.specs.Tree.{Term}
-use Rattle.kt_grammar.specs.Signs.{same_sign, step_of, assign_of, binary_of}
-use Rattle.kt_grammar.specs.Marks.{Mark, Joined, symbols_of, sign, keyword, token, ◌·◌}
-use Rattle.kt_grammar.specs.Cursor.{◌>>=◌, begins_sign, behind, until_at}
+use Rattle.kt_grammar.specs.Signs.{step_of, assign_of, binary_of}
+use Rattle.kt_grammar.specs.Marks.{Mark, Joined, symbols_of, token}
+use Rattle.kt_grammar.specs.Cursor.{begins_sign, until_at}
 use Rattle.kt_grammar.specs.Reading.{begins_expr, begins_postfix, expr_at}
 use Rattle.kt_grammar.specs.Cut.{cut}
 use Rattle.kt_grammar.specs.Laws.{needs, Begins, ExprIsReadBack, ExprBegins}
 use Rattle.kt_grammar.specs.CutLaws.{begins-at, begins-append, begins-token, begins-weaker, cut-none}
 use Rattle.kt_grammar.specs.BackLaws.{same_sign-self}
 use Rattle.kt_grammar.specs.Conditions.{deep_expr_at, condition_at, behind_else}
-use Rattle.kt_grammar.proofs.Parts.{part-then, part-end, sign-then, sign-end, token-then, token-end, none-end, none-then, signed, worded, first-end, first-then}
+use Rattle.kt_grammar.proofs.Parts.{part-then, part-end, sign-then, sign-end, token-then, token-end, none-end, signed, worded, first-end, first-then}
 use Rattle.kt_grammar.proofs.ListsBack.{joined-length, begins-length, until-stop, until-more}
 use Rattle.kt_grammar.proofs.ItemTexts.{length-within}
 use Rattle.kt_grammar.proofs.Conditions.{deep_expr-back, condition-back}

@@ -1,5 +1,5 @@
 -- How the loops over acts and rules read a list.
-use Rattle.std.proofs.Common.{◌≡◌, ℕ, ◌<◌, true, false, List, [], ◌∷◌, ◌++◌, length, map, Ok, Option, sym, ap, subst, ◌∙◌}
+use Rattle.std.proofs.Common.{◌≡◌, ℕ, ◌<◌, false, List, [], ◌∷◌, ◌++◌, length, map, Ok, Option, sym, subst}
 use Rattle.std.proofs.lemmas.List.{map-append}
 use Rattle.kt_grammar.specs.declared.fault.Fault.{Fault}
 use Rattle.kt_grammar.specs.declared.sign.Sign.TheVariants as signs

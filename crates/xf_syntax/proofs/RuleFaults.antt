@@ -1,5 +1,5 @@
 -- Rules that are not read, and so rule files, break off where the fault tells.
-use Rattle.std.proofs.Common.{◌≡◌, ℕ, ◌≤◌, inl, inr, true, List, [], ◌∷◌, drop, Option, Some, None, Ok, Err, refl}
+use Rattle.std.proofs.Common.{◌≡◌, ℕ, ◌≤◌, inl, inr, true, List, [], ◌∷◌, drop, Some, None, Ok, Err, refl}
 use Rattle.kt_grammar.specs.declared.fault.Fault.{Fault}
 use Rattle.kt_grammar.specs.declared.keyword.Keyword.TheVariants as keywords
 use Rattle.kt_grammar.specs.declared.sign.Sign.TheVariants as signs
@@ -16,16 +16,14 @@ use Rattle.kt_grammar.specs.FaultLaws.{no_fault, bind_err, unexpected_stands, fa
 use Rattle.kt_grammar.proofs.FaultSteps.{Blank, blank_joined, blank_as, sign_blank, name_blank, rejoined, grouped, ReadFaults, any_stands, last_fault, parts_fault}
 use Rattle.kt_grammar.proofs.ItemTexts.{each_fault}
 use Rattle.xf_syntax.specs.declared.tree.StructName.{StructName}
-use Rattle.xf_syntax.specs.declared.tree.Target.{Target}
 use Rattle.xf_syntax.specs.declared.tree.Target.TheVariants as target
 use Rattle.xf_syntax.specs.declared.tree.Side.{Side}
 use Rattle.xf_syntax.specs.declared.tree.Side.TheVariants as side
-use Rattle.xf_syntax.specs.Tree.{Code, StructsPaired, Started, Moved}
+use Rattle.xf_syntax.specs.Tree.{StructsPaired, Started, Moved}
 use Rattle.xf_syntax.specs.Spelling.{struct_name, target_spelling, side_spelling, ending, rule, rules}
 use Rattle.xf_syntax.specs.Reading.{code_at, ending_at, field_behind, field_at, target_at, named_behind, side_at, struct_name_at, moved_behind, paired_behind, struct_behind, started_behind, rule_at, rules_at}
-use Rattle.xf_syntax.proofs.ActStands.{code_reads}
 use Rattle.xf_syntax.proofs.ActFaults.{code_blank, code_breaks}
-use Rattle.xf_syntax.proofs.RuleStands.{low, struct_stands, field_behind_stands, field_at_stands, target_at_stands, named_behind_stands, side_at_stands, struct_name_at_stands, ending_at_stands, rule_at_stands}
+use Rattle.xf_syntax.proofs.RuleStands.{low, struct_stands, field_behind_stands, target_at_stands, named_behind_stands, side_at_stands, struct_name_at_stands, rule_at_stands}
 
 -- ---- parts of their parts
 

@@ -1,11 +1,11 @@
 -- Rules that are read, and so rule files, are what is spelled, no token of them too deep.
-use Rattle.std.proofs.Common.{◌≡◌, ℕ, ◌+◌, ◌≤◌, inl, inr, true, List, [], ◌∷◌, length, drop, Option, Some, None, Ok, refl, arith}
+use Rattle.std.proofs.Common.{◌≡◌, ℕ, ◌≤◌, inl, inr, true, List, ◌∷◌, drop, Option, Some, None, Ok, arith}
 use Rattle.kt_grammar.specs.declared.keyword.Keyword.TheVariants as keywords
 use Rattle.kt_grammar.specs.declared.sign.Sign.TheVariants as signs
 use Rattle.kt_grammar.specs.declared.symbol.Symbol.{Symbol}
 use Rattle.kt_grammar.specs.declared.symbol.Symbol.TheVariants as symbol
 use Rattle.kt_grammar.specs.declared.tree.Name.{Name}
-use Rattle.kt_grammar.specs.Marks.{Mark, name, ◌·◌}
+use Rattle.kt_grammar.specs.Marks.{name}
 use Rattle.kt_grammar.specs.Cursor.{◌>>=◌, begins_sign, behind, name_at}
 use Rattle.kt_grammar.specs.Laws.{Stands, ExprStands}
 use Rattle.kt_grammar.specs.TextLaws.{TextStands}

@@ -9,7 +9,7 @@ use Rattle.kt_grammar.specs.declared.symbol.Symbol.TheVariants as symbol
 use Rattle.kt_grammar.specs.declared.tree.Name.{Name}
 use Rattle.kt_grammar.specs.Tree.{Term}
 use Rattle.kt_grammar.specs.Signs.{same_sign}
-use Rattle.kt_grammar.specs.Cursor.{◌>>=◌, begins_sign, behind, name_at}
+use Rattle.kt_grammar.specs.Cursor.{◌>>=◌, name_at}
 use Rattle.kt_grammar.specs.Laws.{ExprIsLocal}
 use Rattle.kt_grammar.specs.Local.{IsLocal}
 use Rattle.kt_grammar.specs.LocalLaws.{IsLocalFrom, IsFirst, then_local, gives_local, unexpected_local, taken, untaken, by_first, dropped, either_from, if_local, or_first, begins_sign-first, behind_local, name_at-local, IsTaking, IsTakingFrom, then_taking, then_takes, takes_it, leaves_it, either_takes, taking_by_first, unexpected_taking, behind_taking, begins_expr-first, refused_local, until_local, refuses_alike}

@@ -1,5 +1,5 @@
 -- Reading a sign and its place.
-use Rattle.std.proofs.Common.{◌≡◌, ℕ, true, false, List, [], ◌∷◌, length, drop, Ok, Err, refl}
+use Rattle.std.proofs.Common.{◌≡◌, true, false, List, [], ◌∷◌, length, drop, Ok, Err, refl}
 use Rattle.kt_grammar.specs.declared.fault.Fault.TheVariants.{Syntax}
 use Rattle.kt_grammar.specs.declared.sign.Sign.{Sign}
 use Rattle.kt_grammar.specs.declared.symbol.Symbol.{Symbol}

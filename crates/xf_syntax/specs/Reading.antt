@@ -1,7 +1,5 @@
 -- Rule files at the front of a list of symbols, with so many more constructs that may be opened.
-use Rattle.std.specs.Prelude.{ℕ, zero, suc, ◌||◌, Bool, true, false, List, [], ◌∷◌, length, drop, Option, Some, None, Result, Ok, Err, if◌then◌else◌}
-use Rattle.kt_grammar.specs.declared.fault.Fault.{Fault}
-use Rattle.kt_grammar.specs.declared.keyword.Keyword.{Keyword}
+use Rattle.std.specs.Prelude.{ℕ, zero, suc, ◌||◌, Bool, true, false, List, [], ◌∷◌, length, drop, Option, Some, None, Ok, if◌then◌else◌}
 use Rattle.kt_grammar.specs.declared.keyword.Keyword.TheVariants as keywords
 use Rattle.kt_grammar.specs.declared.operator.Dialect.TheVariants.{Rules}
 use Rattle.kt_grammar.specs.declared.sign.Sign.{Sign}
