@@ -26,4 +26,4 @@ loop-from-preserved c =
     in
     let finds = subst (λ (xs : List ℕ). Finds p m (flat_map (heap_spots p m) xs) mid c.visit_level.new.found) is c.in_ok-visit_level.ensures in
     let goes = walk-goes p m c.loop-from.from c.args.found.now mid c.visit_level.new.found c.loop-from.invariant finds in
-    subst (λ (k : ℕ). Walks p m k c.args.found.now c.visit_level.new.found) (sym c.len-from.ensures) goes
+    subst (λ (k : ℕ). Walks p m k c.args.found.now c.visit_level.new.found) (sym (c.len-from.ensures ∙ mid.objects.ok.0)) goes
