@@ -1,2 +1,3 @@
 pub mod Found
 pub mod Walk
+pub mod Spots

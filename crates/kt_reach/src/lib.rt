@@ -6,6 +6,8 @@
 #![tactic(auto)]
 
 mod found;
+mod judge;
+mod spot;
 mod visit;
 mod walk;
 

@@ -7,6 +7,7 @@
 mod body;
 mod converts;
 mod laws;
+mod new_type;
 mod place;
 mod plan;
 mod value;
