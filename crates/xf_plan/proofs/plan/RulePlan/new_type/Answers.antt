@@ -1,9 +1,8 @@
-use Rattle.std.proofs.Common.{◌≡◌, ◌∙◌, ◌≤◌, ◌<◌, Bool, true, false, Option, Some, length, get_or, slice_get, sym, ap, below_more, arith}
+use Rattle.std.proofs.Common.{◌≡◌, ◌∙◌, ◌≤◌, ◌<◌, true, false, length, get_or, sym, ap, below_more, arith}
 use Rattle.std.proofs.lemmas.Option.{get_or_from_slice_get}
 use Rattle.kt_types.specs.declared.kinds.Ty.{Ty}
 use Rattle.xf_plan.specs.Correspondence.{types_correspond}
 use Rattle.xf_plan.specs.Plain.{plan_of}
-use Rattle.xf_plan.specs.Plan.{Plan}
 use Rattle.std.specs.List.{position}
 use Rattle.std.specs.Option.{option_and_then}
 use Rattle.xf_plan.proofs.Conversions.{first-is, none-is}

@@ -1,5 +1,4 @@
-use Rattle.std.proofs.Common.{◌≡◌, ◌<◌, ℕ, Bool, false, get_or}
-use Rattle.kt_types.specs.declared.kinds.Ty.{Ty}
+use Rattle.std.proofs.Common.{◌≡◌, ◌<◌, ℕ, false, get_or}
 use Rattle.xf_plan.specs.Correspondence.{types_correspond}
 use Rattle.xf_plan.specs.Plain.{plan_of}
 use Rattle.xf_plan.proofs.plan.RulePlan.new_type.Given as goal
