@@ -1,3 +1,5 @@
 pub mod Marks
 pub mod Parts
 pub mod Levels
+pub mod Becomes
+pub mod Leads

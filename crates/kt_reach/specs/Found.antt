@@ -56,3 +56,13 @@ pub record Adds (m : Memory) (name : Name) (old new : Found) : Type 0 where
   pub added : IsFound new name
   pub alone : (n : Name) → IsFound new n → IsFound old n ⊎ (n ≡ name)
   pub clean : new.clean ≡ old.clean
+
+-- a part of a walk adds all of these names, and no other
+pub record AddsAll (m : Memory) (names : List Name) (old new : Found) : Type 0 where
+  pub marked : IsMarked m new
+  pub size : length new.seen.items ≡ length old.seen.items
+  pub longer : (more : List ℕ) × (new.objects.items ≡ old.objects.items ++ more)
+  pub kept : (n : Name) → IsFound old n → IsFound new n
+  pub all : (n : Name) → is_among names n ≡ true → IsFound new n
+  pub alone : (n : Name) → IsFound new n → IsFound old n ⊎ (is_among names n ≡ true)
+  pub clean : new.clean ≡ old.clean

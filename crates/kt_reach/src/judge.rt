@@ -113,10 +113,12 @@ fn global_fault(plan: &RulePlan, pointee: Option<u32>, wanted: Wanted, g: u32) -
 fn becomes(plan: &RulePlan, g: u32) -> Option<&GlobalRule>
     ensures { option_map global_rule_of (option_copied result) ≡ option_and_then (slice_get (plan_of plan.now).globals) (new_global (plan_of plan.now) g) }
 {
-    plan.globals
-        .as_slice()
-        .iter()
-        .find(|rule| comes_from(g, &rule.source))
+    for rule in plan.globals.as_slice() {
+        if comes_from(g, &rule.source) {
+            return Some(rule);
+        }
+    }
+    None
 }
 
 // Whether a new global comes from this old one.

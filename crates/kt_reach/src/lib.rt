@@ -7,6 +7,7 @@
 
 mod found;
 mod judge;
+mod lead;
 mod spot;
 mod visit;
 mod walk;
