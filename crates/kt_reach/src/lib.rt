@@ -9,6 +9,7 @@ mod found;
 mod judge;
 mod lead;
 mod spot;
+mod spots;
 mod visit;
 mod walk;
 
