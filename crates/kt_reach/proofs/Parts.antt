@@ -12,7 +12,8 @@ use Rattle.xf_plan.specs.Spots.{Spot, fault_at, heap_spots}
 use Rattle.xf_plan.specs.declared.place.Fault.{Fault}
 use Rattle.xf_plan.proofs.Among.{among-left, among-right, among-cases}
 use Rattle.kt_reach.specs.declared.found.Found.{Found}
-use Rattle.kt_reach.specs.Found.{Finds, IsFound, IsMarked, faults_in, fresh_of}
+use Rattle.kt_reach.specs.Answer.{faults_in, fresh_of}
+use Rattle.kt_reach.specs.Found.{Finds, IsFound, IsMarked}
 
 -- no place
 pub finds-none : (p : Plan) (m : Memory) (f : Found) → IsMarked m f → Finds p m [] f f

@@ -5,10 +5,9 @@ use Rattle.kt_mem.specs.declared.memory.Name.TheVariants.{Glob, Lit, Heap}
 use Rattle.kt_mem.specs.Memory.{Memory}
 use Rattle.kt_heap.specs.Keys.{key_of}
 use Rattle.xf_plan.specs.Plan.{Plan}
-use Rattle.xf_plan.specs.Images.{FreshPlace, told, fresh_in}
 use Rattle.xf_plan.specs.Reached.{is_among, targets}
-use Rattle.xf_plan.specs.Spots.{Spot, fault_at}
-use Rattle.xf_plan.specs.declared.place.Fault.{Fault}
+use Rattle.xf_plan.specs.Spots.{Spot}
+use Rattle.kt_reach.specs.Answer.{faults_in, fresh_of}
 use Rattle.kt_reach.specs.declared.found.Found.{Found}
 
 -- a heap object or a literal was found
@@ -28,13 +27,6 @@ pub record IsMarked (m : Memory) (f : Found) : Type 0 where
   pub own : (key : ℕ) → is_seen f key ≡ true → (a : ℕ) × Contains f.objects.items a × (key_of a ≡ key)
   pub once : AllPairs (λ a b. a ≢ b) f.objects.items
   pub room : length f.objects.items + count_by not f.seen.items ≡ length f.seen.items
-
--- what is wrong at places, and the fresh places among them
-abbrev pub faults_in : Plan → Memory → List Spot → List Fault
-faults_in p m spots = flat_map (λ s. told s.place (fault_at p m s)) spots
-
-abbrev pub fresh_of : List Spot → List FreshPlace
-fresh_of spots = flat_map (λ s. fresh_in s.place s.pre) spots
 
 -- a part of a walk over these places finds what their faultless pre-values point to, and nothing else; it stays clean where nothing
 -- is wrong and nothing is fresh there

@@ -1,3 +1,5 @@
+pub mod Answer
 pub mod Found
 pub mod Walk
 pub mod Spots
+pub mod Told

@@ -7,7 +7,8 @@ use Rattle.xf_plan.specs.Reached.{is_among, targets, IsReached}
 use Rattle.xf_plan.specs.Spots.{heap_spots}
 use Rattle.xf_plan.specs.declared.place.Root.{Root}
 use Rattle.kt_reach.specs.declared.found.Found.{Found}
-use Rattle.kt_reach.specs.Found.{IsFound, IsMarked, faults_in, fresh_of}
+use Rattle.kt_reach.specs.Answer.{faults_in, fresh_of}
+use Rattle.kt_reach.specs.Found.{IsFound, IsMarked}
 
 -- all to which the places of an object's image lead was found
 abbrev pub LeadsNowhereElse : Plan → Memory → Found → ℕ → Type 0

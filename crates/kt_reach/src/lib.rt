@@ -9,7 +9,11 @@ mod found;
 mod judge;
 mod lead;
 mod spot;
+mod reached;
 mod spots;
+mod told;
 mod visit;
 mod walk;
+
+pub use reached::{Addresses, Faults, FreshPlaces, Reached};
 
