@@ -3,3 +3,4 @@ pub mod Parts
 pub mod Levels
 pub mod Becomes
 pub mod Leads
+pub mod Orders

@@ -1,10 +1,11 @@
 -- How far a walk by levels has come. No public clause cites this module.
-use Rattle.std.specs.Prelude.{◌≡◌, ℕ, ◌≤◌, true, List, [], length, take, Contains}
+use Rattle.std.specs.Prelude.{◌≡◌, ◌↔◌, ℕ, ◌≤◌, true, List, [], length, take, All, Contains, IsSome}
 use Rattle.kt_mem.specs.declared.memory.Name.{Name}
+use Rattle.kt_mem.specs.declared.memory.Name.TheVariants.{Heap}
 use Rattle.kt_mem.specs.Memory.{Memory}
 use Rattle.xf_plan.specs.Plan.{Plan}
 use Rattle.xf_plan.specs.Reached.{is_among, targets, IsReached}
-use Rattle.xf_plan.specs.Spots.{heap_spots}
+use Rattle.xf_plan.specs.Spots.{heap_spots, root_spots}
 use Rattle.xf_plan.specs.declared.place.Root.{Root}
 use Rattle.kt_reach.specs.declared.found.Found.{Found}
 use Rattle.kt_reach.specs.Answer.{faults_in, fresh_of}
@@ -35,3 +36,13 @@ pub record Walks (p : Plan) (m : Memory) (from : ℕ) (old new : Found) : Type 0
 -- over all of them
 abbrev pub WalksAll : Plan → Memory → Found → Found → Type 0
 WalksAll p m old new = Walks p m (length new.objects.items) old new
+
+-- ---- the whole walk
+
+-- what was found is what is reached, where these are all places from which the update begins; where it is clean, nothing is wrong
+-- at any place, and none is that of a fresh object
+pub record FindsReached (p : Plan) (m : Memory) (roots : List Root) (f : Found) : Type 0 where
+  pub live : All (λ a. IsSome (m.at (Heap a))) f.objects.items
+  pub found : (n : Name) → IsFound f n ↔ IsReached p m roots n
+  pub clean_roots : f.clean ≡ true → (faults_in p m (root_spots p m roots) ≡ []) × (fresh_of (root_spots p m roots) ≡ [])
+  pub clean : f.clean ≡ true → (a : ℕ) → Contains f.objects.items a → IsClean p m a

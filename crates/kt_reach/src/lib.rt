@@ -8,7 +8,10 @@
 mod found;
 mod judge;
 mod lead;
+mod search;
 mod spot;
+mod names;
+mod order;
 mod reached;
 mod spots;
 mod told;

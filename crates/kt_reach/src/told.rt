@@ -1,8 +1,10 @@
 //! What is wrong at places, and the fresh places among them, gathered in order.
-ghost use Rattle.std.specs.Prelude.{◌≡◌, OnOk, IfOk, [], ◌∷◌, flat_map};
+ghost use Rattle.std.specs.Prelude.{◌≡◌, ℕ, true, OnOk, IfOk, [], ◌∷◌, ◌++◌, flat_map, map, Contains};
 ghost use Rattle.kt_heap.specs.Heap.{memory};
 ghost use Rattle.xf_plan.specs.Plain.{plan_of};
 ghost use Rattle.xf_plan.specs.Spots.{heap_spots};
+ghost use Rattle.kt_reach.specs.Answer.{faults_in, fresh_of, fresh_place};
+ghost use Rattle.kt_reach.specs.Walk.{IsClean};
 ghost use Rattle.kt_reach.specs.Spots.{spot_of, spots_of};
 ghost use Rattle.kt_reach.specs.Told.{Tells};
 
@@ -74,4 +76,28 @@ impl Told {
         }
         Ok(())
     }
+}
+
+/// Those of the places where an update begins, and of the images of these heap objects, in this order: none where what was
+/// found is clean.
+pub(crate) fn tell(
+    alloc: Global,
+    plan: &RulePlan,
+    heap: &Heap,
+    begun: &[Spot],
+    objects: &[u64],
+    clean: bool,
+) -> Result<Told, AllocError>
+    requires begun { clean ≡ true → (faults_in (plan_of plan.now) (memory heap.now) (spots_of begun.now) ≡ []) × (fresh_of (spots_of begun.now) ≡ []) }
+    requires objects { clean ≡ true → (a : ℕ) → Contains objects.now a → IsClean (plan_of plan.now) (memory heap.now) a }
+    ensures faults { IfOk result (λ t. t.faults ≡ faults_in (plan_of plan.now) (memory heap.now) (spots_of begun.now ++ flat_map (heap_spots (plan_of plan.now) (memory heap.now)) objects.now)) }
+    ensures fresh { IfOk result (λ t. map fresh_place t.fresh ≡ fresh_of (spots_of begun.now ++ flat_map (heap_spots (plan_of plan.now) (memory heap.now)) objects.now)) }
+{
+    let mut told = Told::new(alloc);
+    if clean {
+        return Ok(told);
+    }
+    told.add(plan, heap, begun)?;
+    told.add_objects(alloc, plan, heap, objects)?;
+    Ok(told)
 }
