@@ -15,7 +15,7 @@ use Rattle.kt_reach.specs.Answer.{faults_in, fresh_of}
 use Rattle.kt_reach.specs.Found.{Finds, IsFound, IsMarked}
 use Rattle.kt_reach.proofs.Parts.{LedBy, among-spots, none-of-each, spots-given}
 use Rattle.xf_plan.specs.Images.{told, fresh_in}
-use Rattle.kt_reach.specs.Walk.{IsClean, IsWithin, LeadsNowhereElse, Walks, WalksAll}
+use Rattle.kt_reach.specs.Walk.{FindsReached, IsClean, IsWithin, LeadsNowhereElse, Walks, WalksAll}
 
 pub walk-begins : (p : Plan) (m : Memory) (f : Found) → IsMarked m f → Walks p m 0 f f
 walk-begins p m f marked = record {
@@ -122,3 +122,30 @@ module _ (m : Memory) (f : Found) (marked : IsMarked m f) (from : ℕ) (level : 
   level-live =
       subst (λ xs. All (λ a. IsSome (m.at (Heap a))) xs) (sym is)
       (All-drop (λ a. IsSome (m.at (Heap a))) from f.objects.items (λ k d low. marked.live (get_or f.objects.items k d) (Contains-get_or f.objects.items k d low)))
+
+-- ---- the whole walk
+
+-- from nothing, over the places where an update begins, and then by levels
+pub finds-all : (p : Plan) (m : Memory) (roots : List Root) (begun : List Spot) (none first last : Found) → begun ≡ root_spots p m roots → ((n : Name) → IsFound none n → ⊥)
+    → Finds p m begun none first → WalksAll p m first last → FindsReached p m roots last
+finds-all p m roots begun none first last are nothing finds walks = record {
+  live = λ k d low. walks.marked.live (get_or last.objects.items k d) (Contains-get_or last.objects.items k d low);
+  found = λ n. (found-reached p m roots first last walks begins no-more n, finds-reached p m roots first last walks begins no-more n);
+  clean_roots = λ h. (roots-clean (cleans h).0).1;
+  clean = λ h. (cleans h).1;
+}
+  where
+    begins : (n : Name) → is_among (targets p m (root_spots p m roots)) n ≡ true → IsFound first n
+    begins n h = finds.all n (subst (λ spots. is_among (targets p m spots) n ≡ true) (sym are) h)
+
+    no-more : (n : Name) → IsFound first n → is_among (targets p m (root_spots p m roots)) n ≡ true
+    no-more n h =
+        elim (finds.alone n h) [ inl never ↦ absurd (nothing n never) | inr t ↦ subst (λ spots. is_among (targets p m spots) n ≡ true) are t ]
+
+    cleans : last.clean ≡ true → (first.clean ≡ true) × ((a : ℕ) → Contains last.objects.items a → IsClean p m a)
+    cleans h = clean-all p m roots first last walks begins no-more h
+
+    roots-clean : first.clean ≡ true → (none.clean ≡ true) × ((faults_in p m (root_spots p m roots) ≡ []) × (fresh_of (root_spots p m roots) ≡ []))
+    roots-clean h =
+        let told = finds.clean h in
+        (told.0, (subst (λ spots. faults_in p m spots ≡ []) are told.1, subst (λ spots. fresh_of spots ≡ []) are told.2))

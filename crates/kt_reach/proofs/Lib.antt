@@ -4,3 +4,4 @@ pub mod Levels
 pub mod Becomes
 pub mod Leads
 pub mod Orders
+pub mod Named

@@ -129,3 +129,16 @@ none-of-each p m g (b ∷ objects) a e h =
       | inl is ↦ subst (λ c. flat_map g (heap_spots p m c) ≡ []) is (empty-left (flat_map g (heap_spots p m b)) (flat_map g (flat_map (heap_spots p m) objects)) split)
       | inr k ↦ none-of-each p m g objects a (empty-right (flat_map g (heap_spots p m b)) (flat_map g (flat_map (heap_spots p m) objects)) split) k
     ]
+
+pub none-of-all : {X : Type 0} (p : Plan) (m : Memory) (g : Spot → List X) (objects : List ℕ) → ((a : ℕ) → Contains objects a → flat_map g (heap_spots p m a) ≡ []) → flat_map g (flat_map (heap_spots p m) objects) ≡ []
+none-of-all p m g [] each = refl
+none-of-all p m g (b ∷ objects) each =
+    let rest = none-of-all p m g objects (λ a h. each a (suc h.0, omega (arith, h.1), h.2)) in
+    flat_map-append g (heap_spots p m b) (flat_map (heap_spots p m) objects)
+    ∙ both-empty (flat_map g (heap_spots p m b)) (flat_map g (flat_map (heap_spots p m) objects)) (each b (0, omega arith, refl)) rest
+
+-- nothing is told of places of which each tells nothing
+pub tells-nothing : {X : Type 0} (p : Plan) (m : Memory) (g : Spot → List X) (begun : List Spot) (objects : List ℕ) → flat_map g begun ≡ [] → ((a : ℕ) → Contains objects a → flat_map g (heap_spots p m a) ≡ [])
+    → [] ≡ flat_map g (begun ++ flat_map (heap_spots p m) objects)
+tells-nothing p m g begun objects first each =
+    sym (flat_map-append g begun (flat_map (heap_spots p m) objects) ∙ both-empty (flat_map g begun) (flat_map g (flat_map (heap_spots p m) objects)) first (none-of-all p m g objects each))

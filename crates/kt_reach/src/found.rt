@@ -1,5 +1,6 @@
 //! What a walk has found.
-ghost use Rattle.std.specs.Prelude.{◌≡◌, ◌<◌, ℕ, IsSome, IfOk, OnOk, length, Contains};
+ghost use Rattle.std.specs.Prelude.{◌≡◌, ◌<◌, ℕ, true, IsSome, IfOk, OnOk, length, Contains};
+ghost use Rattle.kt_mem.specs.declared.memory.Name.{Name};
 ghost use Rattle.kt_mem.specs.declared.memory.Name.TheVariants as name;
 ghost use Rattle.kt_mem.specs.Memory.{Memory};
 ghost use Rattle.kt_heap.specs.Keys.{key_of};
@@ -24,6 +25,9 @@ impl Found {
     /// Nothing, where the heap has so many keys.
     pub fn new(alloc: Global, keys: u32) -> Result<Found, AllocError>
         ensures marked { IfOk result (λ f. (m : Memory) → IsMarked m f) }
+        ensures size { IfOk result (λ f. length f.seen.items ≡ keys) }
+        ensures nothing { IfOk result (λ f. (n : Name) → IsFound f n → ⊥) }
+        ensures clean { IfOk result (λ f. f.clean ≡ true) }
     {
         Ok(Found {
             seen: vec![in alloc; false; keys as usize]?,

@@ -12,11 +12,13 @@ mod search;
 mod spot;
 mod names;
 mod order;
+mod reaching;
 mod reached;
 mod spots;
 mod told;
 mod visit;
 mod walk;
 
+pub use reaching::reach;
 pub use reached::{Addresses, Faults, FreshPlaces, Reached};
 
