@@ -13,7 +13,7 @@ use Rattle.xf_plan.specs.declared.place.Root.{Root}
 use Rattle.kt_reach.specs.declared.found.Found.{Found}
 use Rattle.kt_reach.specs.Answer.{faults_in, fresh_of}
 use Rattle.kt_reach.specs.Found.{Finds, IsFound, IsMarked}
-use Rattle.kt_reach.proofs.Parts.{LedBy, among-spots, none-of-each, spots-given}
+use Rattle.kt_reach.proofs.Joined.{LedBy, among-spots, none-of-each, spots-given}
 use Rattle.xf_plan.specs.Images.{told, fresh_in}
 use Rattle.kt_reach.specs.Walk.{FindsReached, IsClean, IsWithin, LeadsNowhereElse, Walks, WalksAll}
 

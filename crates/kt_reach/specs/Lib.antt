@@ -1,5 +1,6 @@
 pub mod Answer
 pub mod Found
 pub mod Walk
+pub mod Cells
 pub mod Spots
 pub mod Told

@@ -5,6 +5,7 @@
 //! a bit for each key of the heap. Nothing calls itself on the heap's depth.
 #![tactic(auto)]
 
+mod cell;
 mod found;
 mod judge;
 mod lead;
@@ -12,6 +13,7 @@ mod search;
 mod spot;
 mod names;
 mod order;
+mod parts;
 mod reaching;
 mod reached;
 mod spots;

@@ -5,7 +5,7 @@ use Rattle.xf_plan.specs.Plain.{plan_of}
 use Rattle.xf_plan.specs.Spots.{fault_at}
 use Rattle.kt_reach.specs.Answer.{fresh_place}
 use Rattle.kt_reach.specs.Spots.{spots_of}
-use Rattle.kt_reach.proofs.Parts.{tells-nothing}
+use Rattle.kt_reach.proofs.Joined.{tells-nothing}
 use Rattle.kt_reach.proofs.told.tell.Goals as goal
 
 pub returns-then-clean-clause-faults : goal.returns-then-clean-clause-faults
