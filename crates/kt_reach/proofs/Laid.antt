@@ -1,9 +1,15 @@
 -- Parts of new things, laid out one by one.
-use Rattle.std.proofs.Common.{◌≡◌, ℕ, zero, suc, ◌+◌, ◌*◌, ◌-◌, ◌<◌, ◌≤◌, List, [], ◌∷◌, ◌++◌, flat_map, refl, sym, ◌∙◌, ap, arith}
-use Rattle.std.proofs.lemmas.List.{append-nil, append_assoc}
+use Rattle.std.proofs.Common.{◌≡◌, ℕ, zero, suc, ◌+◌, ◌*◌, ◌-◌, ◌<◌, ◌≤◌, List, [], ◌∷◌, ◌++◌, flat_map, length, drop, get_or, slice_get, Some, refl, sym, ◌∙◌, ap, arith}
+use Rattle.std.proofs.lemmas.List.{append-nil, append_assoc, drop_all, drop_more}
+use Rattle.std.proofs.lemmas.Option.{slice_get_read}
 use Rattle.std.proofs.lemmas.List.Concat.{flat_map-append}
+use Rattle.kt_types.specs.Layout.{cells_before}
 use Rattle.kt_types.specs.Table.{Table}
-use Rattle.xf_plan.specs.Extents.{NewCell, cells_within, element_cells}
+use Rattle.kt_types.specs.declared.kinds.FieldDecl.{FieldDecl}
+use Rattle.kt_types.proofs.Cells.{before_more}
+use Rattle.xf_plan.specs.Extents.{NewCell, cells_within, element_cells, field_cells}
+use Rattle.xf_plan.specs.Extents.{extent_of as plain_extent_of}
+use Rattle.xf_plan.specs.Sources.{width}
 use Rattle.kt_reach.specs.declared.cell.Extent.{Extent}
 use Rattle.kt_reach.specs.declared.cell.Part.{Part}
 use Rattle.kt_reach.specs.declared.cell.Part.TheVariants.{Cell, Inner}
@@ -32,3 +38,40 @@ none-left count k high = omega arith
 
 pub next-place : (here cells left total : ℕ) → here + suc left * cells ≡ total → here + cells + left * cells ≡ total
 next-place here cells left total h = omega (arith, h)
+
+-- ---- fields
+
+-- what stands before a field is at most what all of them have
+pub before-most : (t : Table) (fields : List FieldDecl) (n : ℕ) → cells_before t fields n ≤ cells_before t fields (length fields)
+before-most t fields zero = omega arith
+before-most t [] (suc n) = omega arith
+before-most t (f ∷ fields) (suc n) = omega (arith, before-most t fields n)
+
+pub before-end : (t : Table) (fields : List FieldDecl) (n : ℕ) → length fields ≤ n → cells_before t fields n ≡ cells_before t fields (length fields)
+before-end t [] zero h = refl
+before-end t [] (suc n) h = refl
+before-end t (f ∷ fields) zero h = absurd (omega (arith, h))
+before-end t (f ∷ fields) (suc n) h = ap (λ k. width t f.ty + k) (before-end t fields n (omega (arith, h)))
+
+module _ (t : Table) (fields : List FieldDecl) (i : ℕ) (f : FieldDecl) (low : i < length fields) (is : f ≡ get_or fields i f) where
+  pub field-read : slice_get fields i ≡ Some f
+  field-read = slice_get_read fields (length fields) i f refl low is
+
+  pub one-field-more : cells_before t fields (i + 1) ≡ cells_before t fields i + width t f.ty
+  one-field-more = before_more t fields i f field-read
+
+  -- a field that is added, where these are left
+  pub field-added : (n : ℕ) (out new : List Part) (start here : ℕ) (own : Extent) → new ≡ out ++ Inner here own f.ty ∷ [] → extent_of own ≡ plain_extent_of t fields start f.view
+      → parts_cells t n new ++ field_cells t (cells_within t n) fields start (here + width t f.ty) (drop (i + 1) fields)
+      ≡ parts_cells t n out ++ field_cells t (cells_within t n) fields start here (drop i fields)
+  field-added n out new start here own added same =
+      let rest = field_cells t (cells_within t n) fields start (here + width t f.ty) (drop (i + 1) fields) in
+      let split : drop i fields ≡ f ∷ drop (i + 1) fields = drop_more fields i f low ∙ ap (λ g. g ∷ drop (i + 1) fields) (sym is) in
+      part-added t n out new (Inner here own f.ty) rest added
+      ∙ ap (λ e. parts_cells t n out ++ (cells_within t n here e f.ty ++ rest)) same
+      ∙ ap (λ fs. parts_cells t n out ++ field_cells t (cells_within t n) fields start here fs) (sym split)
+
+pub no-fields-left : (t : Table) (n : ℕ) (out : List Part) (fields : List FieldDecl) (start here i : ℕ) → length fields ≤ i
+    → parts_cells t n out ≡ parts_cells t n out ++ field_cells t (cells_within t n) fields start here (drop i fields)
+no-fields-left t n out fields start here i high =
+    sym (ap (λ fs. parts_cells t n out ++ field_cells t (cells_within t n) fields start here fs) (drop_all i fields high) ∙ append-nil (parts_cells t n out))
