@@ -1,19 +1,23 @@
 -- Parts of new things, laid out one by one.
-use Rattle.std.proofs.Common.{◌≡◌, ℕ, zero, suc, ◌+◌, ◌*◌, ◌-◌, ◌<◌, ◌≤◌, List, [], ◌∷◌, ◌++◌, flat_map, length, drop, get_or, slice_get, Some, refl, sym, ◌∙◌, ap, arith}
+use Rattle.std.proofs.Common.{◌≡◌, ℕ, zero, suc, ◌+◌, ◌*◌, ◌-◌, ◌<◌, ◌≤◌, List, [], ◌∷◌, ◌++◌, flat_map, length, drop, get_or, slice_get, Option, None, Some, IsSome, MatchOption, unwrap_or, refl, sym, ◌∙◌, ap, subst, arith}
+use Rattle.std.specs.Option.{option_and_then}
+use Rattle.std.proofs.lemmas.List.Elements.{All-push}
 use Rattle.std.proofs.lemmas.List.{append-nil, append_assoc, drop_all, drop_more}
 use Rattle.std.proofs.lemmas.Option.{slice_get_read}
 use Rattle.std.proofs.lemmas.List.Concat.{flat_map-append}
-use Rattle.kt_types.specs.Layout.{cells_before}
-use Rattle.kt_types.specs.Table.{Table}
+use Rattle.kt_types.specs.Layout.{IsFixed, cells_before, joined, layout, struct_layout, type_cells}
+use Rattle.kt_types.specs.Table.{Table, fields_of}
+use Rattle.kt_types.specs.declared.kinds.Ty.{Ty}
+use Rattle.kt_types.specs.declared.kinds.Ty.TheVariants.{Struct}
 use Rattle.kt_types.specs.declared.kinds.FieldDecl.{FieldDecl}
-use Rattle.kt_types.proofs.Cells.{before_more}
+use Rattle.kt_types.proofs.Cells.{before_more, joined-length}
 use Rattle.xf_plan.specs.Extents.{NewCell, cells_within, element_cells, field_cells}
 use Rattle.xf_plan.specs.Extents.{extent_of as plain_extent_of}
 use Rattle.xf_plan.specs.Sources.{width}
 use Rattle.kt_reach.specs.declared.cell.Extent.{Extent}
 use Rattle.kt_reach.specs.declared.cell.Part.{Part}
 use Rattle.kt_reach.specs.declared.cell.Part.TheVariants.{Cell, Inner}
-use Rattle.kt_reach.specs.Cells.{extent_of, part_cells, parts_cells}
+use Rattle.kt_reach.specs.Cells.{AreWithinStart, IsWithinStart, extent_of, part_cells, parts_cells}
 
 -- a part that is added, and what is still to come
 pub part-added : (t : Table) (n : ℕ) (out new : List Part) (part : Part) (rest : List NewCell) → new ≡ out ++ part ∷ [] → parts_cells t n new ++ rest ≡ parts_cells t n out ++ (part_cells t n part ++ rest)
@@ -75,3 +79,25 @@ pub no-fields-left : (t : Table) (n : ℕ) (out : List Part) (fields : List Fiel
     → parts_cells t n out ≡ parts_cells t n out ++ field_cells t (cells_within t n) fields start here (drop i fields)
 no-fields-left t n out fields start here i high =
     sym (ap (λ fs. parts_cells t n out ++ field_cells t (cells_within t n) fields start here fs) (drop_all i fields high) ∙ append-nil (parts_cells t n out))
+
+-- ---- where parts begin
+
+pub started : (limit : ℕ) (out new : List Part) (part : Part) → new ≡ out ++ part ∷ [] → AreWithinStart limit out → IsWithinStart limit part → AreWithinStart limit new
+started limit out new part is before here = subst (λ ps. AreWithinStart limit ps) (sym is) (All-push (IsWithinStart limit) out part before here)
+
+pub at-most : (here cells left total limit : ℕ) → here + left * cells ≡ total → total ≤ limit → here ≤ limit
+at-most here cells left total limit is most = omega (arith, is, most)
+
+-- ---- structs
+
+-- the fields of a complete struct have as many cells as its type
+pub struct-few : (t : Table) (b r : ℕ) (fields : List FieldDecl) → slice_get t.types b ≡ Some (Struct r) → IsFixed t b → fields_of t r ≡ Some fields → IsSome (joined (layout t) fields)
+    → cells_before t fields (length fields) ≡ width t b
+struct-few t b r fields stands fixed are complete = by (joined (layout t) fields) refl complete
+  where
+    laid : layout t b ≡ joined (layout t) fields
+    laid = subst (λ o. MatchOption o (layout t b ≡ None) (λ u. layout t b ≡ type_cells (struct_layout t) (layout t) u)) stands fixed ∙ ap (option_and_then (joined (layout t))) are
+
+    by : (o : Option (List Ty)) → joined (layout t) fields ≡ o → IsSome o → cells_before t fields (length fields) ≡ width t b
+    by None e h = let never : ⊥ = cc in absurd never
+    by (Some cs) e h = sym (joined-length t fields cs e) ∙ sym (ap (λ o. length (unwrap_or o [])) (laid ∙ e))

@@ -32,3 +32,11 @@ IsWithinStart limit (Inner start own b) = start ≤ limit
 
 abbrev pub AreWithinStart : ℕ → List Part → Type 0
 AreWithinStart limit parts = All (IsWithinStart limit) parts
+
+-- the cells that are laid out already
+abbrev pub laid : Part → List plain.NewCell
+laid (Cell c) = cell_of c ∷ []
+laid (Inner start own b) = []
+
+abbrev pub laid_cells : List Part → List plain.NewCell
+laid_cells parts = flat_map laid parts

@@ -8,6 +8,7 @@
 mod cell;
 mod found;
 mod judge;
+mod layout;
 mod lead;
 mod search;
 mod spot;
