@@ -1,8 +1,8 @@
 -- Parts of new things, laid out one by one.
-use Rattle.std.proofs.Common.{◌≡◌, ℕ, zero, suc, ◌+◌, ◌*◌, ◌-◌, ◌<◌, ◌≤◌, List, [], ◌∷◌, ◌++◌, flat_map, length, drop, get_or, slice_get, Option, None, Some, IsSome, MatchOption, unwrap_or, refl, sym, ◌∙◌, ap, subst, arith}
+use Rattle.std.proofs.Common.{◌≡◌, ℕ, zero, suc, ◌+◌, ◌*◌, ◌-◌, ◌<◌, ◌≤◌, List, [], ◌∷◌, ◌++◌, flat_map, length, drop, take, get_or, slice_get, Option, None, Some, IsSome, MatchOption, unwrap_or, refl, sym, ◌∙◌, ap, subst, arith}
 use Rattle.std.specs.Option.{option_and_then}
-use Rattle.std.proofs.lemmas.List.Elements.{All-push}
-use Rattle.std.proofs.lemmas.List.{append-nil, append_assoc, drop_all, drop_more}
+use Rattle.std.proofs.lemmas.List.Elements.{All-push, All-weaker}
+use Rattle.std.proofs.lemmas.List.{append-nil, append_assoc, drop_all, drop_more, take_more}
 use Rattle.std.proofs.lemmas.Option.{slice_get_read}
 use Rattle.std.proofs.lemmas.List.Concat.{flat_map-append}
 use Rattle.kt_types.specs.Layout.{IsFixed, cells_before, joined, layout, struct_layout, type_cells}
@@ -15,9 +15,10 @@ use Rattle.xf_plan.specs.Extents.{NewCell, cells_within, element_cells, field_ce
 use Rattle.xf_plan.specs.Extents.{extent_of as plain_extent_of}
 use Rattle.xf_plan.specs.Sources.{width}
 use Rattle.kt_reach.specs.declared.cell.Extent.{Extent}
+use Rattle.kt_reach.specs.declared.cell.NewCell as code
 use Rattle.kt_reach.specs.declared.cell.Part.{Part}
 use Rattle.kt_reach.specs.declared.cell.Part.TheVariants.{Cell, Inner}
-use Rattle.kt_reach.specs.Cells.{AreWithinStart, IsWithinStart, extent_of, part_cells, parts_cells}
+use Rattle.kt_reach.specs.Cells.{AreWithinStart, IsWithinStart, cell_of, extent_of, laid, laid_cells, part_cells, parts_cells}
 
 -- a part that is added, and what is still to come
 pub part-added : (t : Table) (n : ℕ) (out new : List Part) (part : Part) (rest : List NewCell) → new ≡ out ++ part ∷ [] → parts_cells t n new ++ rest ≡ parts_cells t n out ++ (part_cells t n part ++ rest)
@@ -101,3 +102,32 @@ struct-few t b r fields stands fixed are complete = by (joined (layout t) fields
     by : (o : Option (List Ty)) → joined (layout t) fields ≡ o → IsSome o → cells_before t fields (length fields) ≡ width t b
     by None e h = let never : ⊥ = cc in absurd never
     by (Some cs) e h = sym (joined-length t fields cs e) ∙ sym (ap (λ o. length (unwrap_or o [])) (laid ∙ e))
+
+-- ---- lists of parts
+
+pub flat-more : {X A : Type 0} (f : X → List A) (xs : List X) (i : ℕ) (d : X) → i < length xs → flat_map f (take (i + 1) xs) ≡ flat_map f (take i xs) ++ f (get_or xs i d)
+flat-more f xs i d low =
+    ap (flat_map f) (take_more xs i d low) ∙ flat_map-append f (take i xs) (get_or xs i d ∷ []) ∙ ap (λ ys. flat_map f (take i xs) ++ ys) (append-nil (f (get_or xs i d)))
+
+-- one more part is a cell
+pub cell-more : (t : Table) (n : ℕ) (parts : List Part) (i : ℕ) (d : Part) (c : code.NewCell) → i < length parts → get_or parts i d ≡ Cell c → parts_cells t n (take i parts) ≡ laid_cells (take i parts)
+    → parts_cells t n (take (i + 1) parts) ≡ laid_cells (take (i + 1) parts)
+cell-more t n parts i d c low is before =
+    flat-more (part_cells t n) parts i d low
+    ∙ ap (λ q. parts_cells t n (take i parts) ++ part_cells t n q) is
+    ∙ ap (λ cs. cs ++ cell_of c ∷ []) before
+    ∙ ap (λ q. laid_cells (take i parts) ++ laid q) (sym is)
+    ∙ sym (flat-more laid parts i d low)
+
+-- one more part is expanded
+pub expanded-more : (t : Table) (n : ℕ) (parts : List Part) (i : ℕ) (d : Part) (old new : List Part) → i < length parts → parts_cells t n old ≡ parts_cells t (suc n) (take i parts)
+    → parts_cells t n new ≡ parts_cells t n old ++ part_cells t (suc n) (get_or parts i d) → parts_cells t n new ≡ parts_cells t (suc n) (take (i + 1) parts)
+expanded-more t n parts i d old new low before now =
+    now ∙ ap (λ cs. cs ++ part_cells t (suc n) (get_or parts i d)) before ∙ sym (flat-more (part_cells t (suc n)) parts i d low)
+
+pub wider : (limit more : ℕ) (parts : List Part) → limit ≤ more → AreWithinStart limit parts → AreWithinStart more parts
+wider limit more parts le h = All-weaker (IsWithinStart limit) (IsWithinStart more) each parts h
+  where
+    each : (q : Part) → IsWithinStart limit q → IsWithinStart more q
+    each (Cell c) k = k
+    each (Inner start own b) k = omega (arith, k, le)

@@ -100,7 +100,7 @@ fn add_fields(
 }
 
 /// Adds what a part is made of: a cell is itself.
-fn expand_part(
+pub(crate) fn expand_part(
     types: &TypeTable,
     part: Part,
     parts: &mut Vec<Part>,
