@@ -1,0 +1,17 @@
+//! Pre-values, run: what a new cell, argument or local is to hold, from a rule plan and the old version's heap.
+//!
+//! The definition stands in `xf_plan`. A body is run over its typed tree and the heap as they are: nothing is copied, and no
+//! memory is taken.
+#![tactic(auto)]
+
+mod bodies;
+mod code;
+mod defaults;
+mod faults;
+mod fields;
+mod operands;
+mod operations;
+mod pre_values;
+
+pub use faults::PreFault;
+pub use pre_values::{pre_argument, pre_local};
