@@ -1,0 +1,3 @@
+pub mod Branches
+pub mod Evaluation
+pub mod FieldSteps

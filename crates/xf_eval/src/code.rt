@@ -29,14 +29,14 @@ pub(crate) fn evaluate(
     match expr {
         Expr::Constant(value, _) => constant_value(*value),
         Expr::Local(n) => local_value(locals, *n),
-        Expr::Operation(op, ty, operands) => {
-            let operands = operands_of(operands, types, heap, locals)?;
-            apply(types, *op, *ty, operands)
-        }
-        Expr::Request(request, ty, operands) => {
-            let operands = operands_of(operands, types, heap, locals)?;
-            requested(types, heap, request, *ty, operands)
-        }
+        Expr::Operation(op, ty, operands) => match operands_of(operands, types, heap, locals) {
+            Err(trap) => Err(trap),
+            Ok(operands) => apply(types, *op, *ty, operands),
+        },
+        Expr::Request(request, ty, operands) => match operands_of(operands, types, heap, locals) {
+            Err(trap) => Err(trap),
+            Ok(operands) => requested(types, heap, request, *ty, operands),
+        },
         Expr::And(a, b) => match zero_test(evaluate_boxed(a, types, heap, locals)) {
             Err(trap) => Err(trap),
             Ok(true) => Ok(truth(false)),
@@ -54,7 +54,10 @@ pub(crate) fn evaluate(
                 Ok(false) => evaluate_boxed(a, types, heap, locals),
             }
         }
-        _ => Err(Trap::Uninit),
+        Expr::SetLocal(_, _) => Err(Trap::Uninit),
+        Expr::SwapLocal(_, _) => Err(Trap::Uninit),
+        Expr::Modify(..) => Err(Trap::Uninit),
+        Expr::Call(_, _) => Err(Trap::Uninit),
     }
 }
 

@@ -1,5 +1,5 @@
 //! How many cells a type has, and how many stand before a field.
-ghost use Rattle.std.specs.Prelude.{◌≡◌, Some};
+ghost use Rattle.std.specs.Prelude.{◌≡◌, ◌≤◌, Some};
 ghost use Rattle.kt_types.specs.Layout.{cells_before};
 ghost use Rattle.kt_types.specs.Table.{fields_of};
 ghost use Rattle.kt_meaning.specs.Operations.{field_place, width};
@@ -13,7 +13,8 @@ const FAR: u32 = 65_537;
 
 /// How many cells an element of the type has.
 pub(crate) fn width(types: &TypeTable, element: u32) -> u32
-    ensures { result ≡ width types.now element }
+    ensures count { result ≡ width types.now element }
+    ensures within { result ≤ 65536 }
 {
     if types.is_complete(element) {
         types.cells_of(element)
