@@ -1,8 +1,6 @@
 -- Expressions and bodies, as the code runs them.
-use denote.Hole.Carrier.{hidden}
-use Rattle.std.specs.Prelude.{◌≡◌, ℕ, List, [], ◌∷◌, Option, None, Some, slice_get, Result, Ok, Err, refl}
-use Rattle.std.proofs.Common.{sym, ap, subst, ◌∙◌}
-use Rattle.kt_types.specs.declared.kinds.Ty.{Ty}
+use Rattle.std.specs.Prelude.{◌≡◌, ℕ, List, [], ◌∷◌, Option, None, Some, Result, Ok, Err, refl}
+use Rattle.std.proofs.Common.{sym, ap, ◌∙◌}
 use Rattle.kt_types.specs.Table.{Table}
 use Rattle.kt_mem.specs.declared.memory.Value.{Value}
 use Rattle.kt_mem.specs.declared.steps.Trap.{Trap}
@@ -13,17 +11,9 @@ use Rattle.kt_tree.specs.declared.expr.Request.{Request}
 use Rattle.kt_tree.specs.declared.expr.Request.TheVariants as request
 use Rattle.kt_tree.specs.Tree.{Expression, Expressions, expression_of, expressions_of}
 use Rattle.kt_meaning.specs.Operations.{apply_operation}
-use Rattle.xf_plan.specs.RuleCode.{Reading, next, evaluate, evaluate_all, requested, given, after_action}
-use Rattle.xf_plan.specs.Bodies.{Actions}
-use Rattle.xf_plan.specs.Bodies as plain
-use Rattle.xf_plan.specs.Plain.{given_of, action_of, actions_of, actions_of_row}
-use Rattle.xf_plan.specs.declared.body.Action.{Action}
-use Rattle.xf_plan.specs.declared.body.Action.TheVariants as action
-use Rattle.xf_plan.specs.declared.body.Given.{Given}
-use Rattle.xf_plan.specs.declared.body.Given.TheVariants as given_form
-use Rattle.xf_plan.specs.declared.value.PreValue.{PreValue}
+use Rattle.xf_plan.specs.RuleCode.{Reading, next, evaluate, evaluate_all, requested}
 use Rattle.xf_eval.specs.declared.operands.Operands.{Operands}
-use Rattle.xf_eval.specs.declared.operands.Operands.TheVariants.{Empty, One, Two, More}
+use Rattle.xf_eval.specs.declared.operands.Operands.TheVariants.{Empty, More}
 use Rattle.xf_eval.specs.Operands.{with_one, with_all, gathered, list_of}
 
 -- ---- operands

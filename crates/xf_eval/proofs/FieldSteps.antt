@@ -1,7 +1,7 @@
 -- Steps to fields.
 use native.Mathlib.Numerals.{unary_clauses}
-use Rattle.std.specs.Prelude.{pos, ◌+ℤ◌, ◌*ℤ◌}
-use Rattle.std.proofs.Common.{◌≡◌, ℕ, zero, suc, ◌+◌, ◌*◌, ◌<◌, ◌≤◌, List, [], ◌∷◌, length, take, refl, ap, sym, ◌∙◌, arith, min, inl, inr, false}
+use Rattle.std.specs.Prelude.{pos, ◌*ℤ◌}
+use Rattle.std.proofs.Common.{◌≡◌, ℕ, zero, suc, ◌+◌, ◌*◌, ◌≤◌, List, [], ◌∷◌, length, take, refl, ap, sym, ◌∙◌, arith, min, inl, inr}
 use Rattle.std.proofs.lemmas.Bool.{cases_lt, lt-leb}
 use Rattle.kt_types.specs.Layout.{cells, cells_before}
 use Rattle.kt_types.specs.Table.{Table}

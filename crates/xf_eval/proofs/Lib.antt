@@ -1,3 +1,5 @@
 pub mod Branches
 pub mod Evaluation
 pub mod FieldSteps
+pub mod Forms
+pub mod Running

@@ -1,11 +1,13 @@
-use Rattle.std.proofs.Common.{ap, sym, ◌∙◌, Ok}
+use Rattle.std.proofs.Common.{◌≡◌, ◌+◌, ◌∷◌, drop, ap, sym, ◌∙◌, Ok, refl}
+use Rattle.std.proofs.lemmas.List.{drop_more}
 use Rattle.kt_tree.specs.Forms.{operation_form, request_form, set_form, swap_form, modify_form, and_form, or_form, choice_form}
 use Rattle.kt_tree.specs.Tree.{expression_of, expressions_of, LocalSet, LocalSwapped, Operated, Requested, Modified, Both, Either, Chosen}
 use Rattle.kt_meaning.specs.Operations.{apply_operation}
-use Rattle.xf_plan.specs.RuleCode.{evaluate, evaluate_all, requested, truth_of}
+use Rattle.xf_plan.specs.RuleCode.{evaluate_all, requested, truth_of}
+use Rattle.xf_eval.specs.Operands.{gathered}
 use Rattle.xf_eval.specs.Readings.{reading}
 use Rattle.xf_eval.proofs.Branches.{trapped-way, zero-way, other-way}
-use Rattle.xf_eval.proofs.Evaluation.{as-form, operated, asked-of, without-operands}
+use Rattle.xf_eval.proofs.Evaluation.{as-form, operated, asked-of, without-operands, gather-more}
 use Rattle.xf_eval.proofs.code.+evaluate.Goals as goal
 
 pub evaluate-returns-in-Err : goal.evaluate-returns-in-Err
@@ -106,13 +108,33 @@ evaluate-returns-in-Ok-false-zero_test-2 t c =
     c.evaluate_boxed-in-Ok-false-zero_test-2.ensures)
 
 pub evaluate-returns-in-SetLocal : goal.evaluate-returns-in-SetLocal
-evaluate-returns-in-SetLocal t c = ?
+evaluate-returns-in-SetLocal t c =
+    let s = c.in-SetLocal in
+    as-form (reading c.args.types.now c.args.heap.now c.args.locals.now) c.args.expr.now (LocalSet s.field-0 (expression_of s.field-1)) _
+    (ap expression_of s.is ∙ set_form s.field-0 s.field-1) refl
 
 pub evaluate-returns-in-SwapLocal : goal.evaluate-returns-in-SwapLocal
-evaluate-returns-in-SwapLocal t c = ?
+evaluate-returns-in-SwapLocal t c =
+    let s = c.in-SwapLocal in
+    as-form (reading c.args.types.now c.args.heap.now c.args.locals.now) c.args.expr.now (LocalSwapped s.field-0 (expression_of s.field-1)) _
+    (ap expression_of s.is ∙ swap_form s.field-0 s.field-1) refl
 
 pub evaluate-returns-in-Modify : goal.evaluate-returns-in-Modify
-evaluate-returns-in-Modify t c = ?
+evaluate-returns-in-Modify t c =
+    let s = c.in-Modify in
+    as-form (reading c.args.types.now c.args.heap.now c.args.locals.now) c.args.expr.now
+    (Modified s.field-0 s.field-1 s.field-2 s.field-3 (expression_of s.field-4) (expression_of s.field-5)) _
+    (ap expression_of s.is ∙ modify_form s.field-0 s.field-1 s.field-2 s.field-3 s.field-4 s.field-5) refl
 
 pub operands_of-loop-operand-preserved : goal.operands_of-loop-operand-preserved
-operands_of-loop-operand-preserved t c = ?
+operands_of-loop-operand-preserved t c =
+    let r = reading c.args.types.now c.args.heap.now c.args.locals.now in
+    let items = c.as_slice-operand-items.result.now in
+    let i = c.loop-operand.operand-index in
+    let e = c.operand-item.result in
+    let rest = drop (i + 1) items in
+    let was : c.evaluate.result ≡ Ok c.in_ok-evaluate.field-0 = c.in_ok-evaluate.was in
+    let here : drop i items ≡ e ∷ rest = drop_more items i e c.loop-operand-test.true ∙ ap (λ x. x ∷ rest) (sym c.operand-item.is) in
+    ap (λ os. gathered os (evaluate_all r (expressions_of rest))) c.with-values.ensures
+    ∙ gather-more r c.loop-operand.values e rest c.in_ok-evaluate.field-0 (sym was ∙ c.evaluate.ensures)
+    ∙ ap (λ es. gathered c.loop-operand.values (evaluate_all r (expressions_of es))) (sym here) ∙ c.loop-operand.invariant
