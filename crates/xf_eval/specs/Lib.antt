@@ -2,3 +2,4 @@ pub mod Steps
 pub mod Operands
 pub mod Readings
 pub mod Asked
+pub mod Parts

@@ -5,13 +5,17 @@
 #![tactic(auto)]
 
 mod bodies;
+mod cells;
 mod code;
 mod defaults;
 mod faults;
 mod fields;
+mod found;
 mod operands;
 mod operations;
 mod pre_values;
+mod sources;
+mod ways;
 
 pub use faults::PreFault;
-pub use pre_values::{pre_argument, pre_local};
+pub use pre_values::{pre_argument, pre_cell, pre_global, pre_local};
