@@ -23,7 +23,7 @@ pub(crate) fn pre_value(
     ty: Ty,
     source: Found,
 ) -> Result<PreValue, Trap>
-    ensures { result ≡ pre_value (plan_of plan.now) (memory heap.now) name ty (source_of source) }
+    ensures { result ≡ pre_value (plan_of plan.now) (memory heap.now) name ty (source_of source.entry) }
 {
     match source {
         Found::Cell(place) => Ok(by_default(ty, old_value(heap, name, place))),

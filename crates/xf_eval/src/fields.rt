@@ -38,8 +38,8 @@ pub(crate) fn field_place(
     }
 }
 
-// How many cells stand before a field: by the look-up of its name, which finds the field itself.
-fn steps_to(types: &TypeTable, number: u32, fields: &[FieldDecl], index: u32) -> u32
+/// How many cells stand before a field: by the look-up of its name, which finds the field itself.
+pub(crate) fn steps_to(types: &TypeTable, number: u32, fields: &[FieldDecl], index: u32) -> u32
     requires { fields_of types.now number ≡ Some fields.now }
     ensures { LeadsAsFar (cells_before types.now fields.now index) result }
 {

@@ -8,7 +8,7 @@ ghost use Rattle.xf_eval.specs.Parts.{source_of, StaysWithin};
 
 use crate::fields;
 use crate::found::Found;
-use crate::ways::{Part, Way, way};
+use crate::ways::{Part, Way, way_to};
 use xf_plan::{GlobalRule, GlobalSource, RulePlan};
 
 /// The source of a cell of a new thing that comes from an old one, by the places of their types.
@@ -26,7 +26,7 @@ pub(crate) fn source_of<'p>(plan: &'p RulePlan, from: u32, to: u32, cell: u32) -
         start: 0,
     };
     for _ in 0..plan.new.type_count() {
-        match way(plan, part.old, part.new, part.cell) {
+        match way_to(plan, part.old, part.new, part.cell) {
             Some(Way::Ends(found)) => return found.moved_by(part.start, most - part.start),
             Some(Way::Into(next)) => {
                 part = Part {

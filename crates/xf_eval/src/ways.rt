@@ -35,7 +35,7 @@ pub(crate) enum Way<'p> {
 }
 
 /// Where a cell of a new thing leads that comes from an old one, by the places of their types.
-pub(crate) fn way<'p>(plan: &'p RulePlan, old: u32, new: u32, cell: u32) -> Option<Way<'p>>
+pub(crate) fn way_to<'p>(plan: &'p RulePlan, old: u32, new: u32, cell: u32) -> Option<Way<'p>>
     requires { IsWhole (plan_of plan.now) }
     ensures leads { (n : ℕ) → IsSome (at_place (sources_within (plan_of plan.now) (suc n) old new) cell) → LeadsBy (sources_within (plan_of plan.now) n) (at_place (sources_within (plan_of plan.now) (suc n) old new) cell) result }
     ensures within { IsWithin plan.now.old (width plan.now.old old) result }
