@@ -6,3 +6,5 @@ pub mod Running
 pub mod Elements
 pub mod Rules
 pub mod Structs
+pub mod Sizes
+pub mod Descent

@@ -7,8 +7,10 @@ use Rattle.std.proofs.lemmas.Option.{slice_get-map, none-some, option_and_then_s
 use Rattle.std.proofs.lemmas.Bool.{cases_Bool, false≢true, leb-true, leb-false}
 use Rattle.kt_types.specs.declared.kinds.FieldDecl.{FieldDecl}
 use Rattle.kt_types.specs.Table.{Table}
-use Rattle.kt_types.specs.Layout.{cells_before}
-use Rattle.kt_types.proofs.Cells.{slice_get-append_left, slice_get-append_right, before-le, before_more}
+use Rattle.kt_types.specs.declared.kinds.Ty.{Ty}
+use Rattle.kt_types.specs.Layout.{cells_before, joined, layout}
+use Rattle.kt_types.proofs.Cells.{slice_get-append_left, slice_get-append_right, before-le, before_more, joined-length}
+use Rattle.kt_types.proofs.Complete.{value-of}
 use Rattle.kt_types.proofs.Growth.{option_map_some}
 use Rattle.xf_plan.specs.Bodies.{Actions}
 use Rattle.xf_plan.specs.Plan.{Plan, FieldRule, FieldSource, OldField, ZeroField, FieldBody, rules_of}
@@ -16,6 +18,7 @@ use Rattle.xf_plan.specs.Sources.{Source, FromCell, Zero, FromBody, moved_by, wi
 use Rattle.xf_plan.specs.Whole.{FillsCell}
 use Rattle.xf_eval.specs.Asked.{at_place}
 use Rattle.xf_eval.specs.Parts.{find_rule, AreSized}
+use Rattle.xf_eval.specs.Steps.{LeadsAsFar}
 use Rattle.xf_eval.proofs.Elements.{all-zero}
 
 -- ---- each body fills a cell
@@ -30,11 +33,11 @@ all-fill p (f ∷ rest) each = (each 0 f refl, all-fill p rest (λ n g is. each 
 
 pub some-fill : (p : Plan) (test : FieldRule → Bool) (rules : List FieldRule) → AllFill p rules → AllFill p (filter test rules)
 some-fill p test [] all = tt
-some-fill p test (f ∷ rest) all = by (test f)
+some-fill p test (f ∷ rest) all = by (test f) (some-fill p test rest all.1)
   where
-    by : (b : Bool) → AllFill p (cond b (f ∷ filter test rest) (filter test rest))
-    by true = (all.0, some-fill p test rest all.1)
-    by false = some-fill p test rest all.1
+    by : (b : Bool) → AllFill p (filter test rest) → AllFill p (cond b (f ∷ filter test rest) (filter test rest))
+    by true more = (all.0, more)
+    by false more = more
 
 module _ (p : Plan) (at : ℕ → ℕ → Option (List Source)) (sized : AreSized p.new at) (fields : List FieldDecl) where
   -- ---- the sources of a field are as many as it has cells
@@ -45,7 +48,7 @@ module _ (p : Plan) (at : ℕ → ℕ → Option (List Source)) (sized : AreSize
       let (xs, has, same) = option_map_some (map (moved_by c)) (at a t) ys e in
       ap length (sym same) ∙ length-map xs (moved_by c) ∙ sized a t xs has
 
-  field-sized : (f : FieldRule) (s : FieldSource) (ys : List Source) → FillsCell p f.ty s → of_field p at fields f s ≡ Some ys → length ys ≡ width p.new f.ty
+  pub field-sized : (f : FieldRule) (s : FieldSource) (ys : List Source) → FillsCell p f.ty s → of_field p at fields f s ≡ Some ys → length ys ≡ width p.new f.ty
   field-sized f (OldField k) ys fills e = from-old f.ty (cells_before p.old fields k) (old_field p fields k) ys e
   field-sized f ZeroField ys fills e = let same : replicate (width p.new f.ty) Zero ≡ ys = cc in ap length (sym same) ∙ length-replicate (width p.new f.ty) Zero
   field-sized f (FieldBody source body) ys fills e =
@@ -86,6 +89,21 @@ module _ (p : Plan) (at : ℕ → ℕ → Option (List Source)) (sized : AreSize
       by None e h = absurd (false≢true h)
       by (Some xs) e h = field-at rules xs fill e i
 
+  -- of a struct that has these fields
+  pub in-field : (known : Option (List FieldDecl)) → known ≡ Some fields → (rules : List FieldRule) (i : ℕ) (q : FieldRule × ℕ) → AllFill p rules →
+      find_rule p.new rules i ≡ Some q → IsSome (at_place (option_and_then (λ fs. of_fields p at fs rules) known) i) →
+      at_place (option_and_then (λ fs. of_fields p at fs rules) known) i ≡ at_place (of_field p at fields q.0 q.0.source) q.1
+  in-field known is rules i q fill found h =
+      let same = ap (λ (o : Option (List FieldDecl)). at_place (option_and_then (λ fs. of_fields p at fs rules) o) i) is in
+      same ∙ way-in rules i fill (subst (λ (o : Option Source). IsSome o) same h) ∙ ap via found
+
+  pub in-none : (known : Option (List FieldDecl)) → known ≡ Some fields → (rules : List FieldRule) (i : ℕ) → AllFill p rules →
+      find_rule p.new rules i ≡ None → IsSome (at_place (option_and_then (λ fs. of_fields p at fs rules) known) i) → ⊥
+  in-none known is rules i fill found h =
+      let same = ap (λ (o : Option (List FieldDecl)). at_place (option_and_then (λ fs. of_fields p at fs rules) o) i) is in
+      let none = same ∙ way-in rules i fill (subst (λ (o : Option Source). IsSome o) same h) ∙ ap via found in
+      false≢true (subst (λ (o : Option Source). IsSome o) none h)
+
   -- ---- the sources of one field
 
   pub old-field : (f : FieldRule) (k : ℕ) (d : FieldDecl) (j : ℕ) → slice_get fields k ≡ Some d →
@@ -120,3 +138,16 @@ field-within t fields k d is =
     let more = before_more t fields k d is in
     let le = before-le t fields (k + 1) (length fields) (let up : k + 1 ≤ length fields = omega (arith, in_range) in up) in
     omega (arith, more, le)
+
+-- a step that leads as far is exact within a struct
+pub exact-step : (n k most : ℕ) → LeadsAsFar n k → n ≤ most → most ≤ 65536 → n ≡ k
+exact-step n k most (inl e) low few = sym e
+exact-step n k most (inr far) low few = let a = far.0 in absurd (omega (arith, a, low, few))
+
+pub few-cells : (t : Table) (fields : List FieldDecl) (most : ℕ) → IsSome (joined (layout t) fields) →
+    ((cs : List Ty) → joined (layout t) fields ≡ Some cs → length cs ≤ most) → cells_before t fields (length fields) ≤ most
+few-cells t fields most complete bound =
+    let (cs, has) = value-of (joined (layout t) fields) complete in
+    let long = joined-length t fields cs has in
+    let le = bound cs has in
+    omega (arith, long, le)

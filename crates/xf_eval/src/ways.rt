@@ -1,6 +1,7 @@
 //! One step down, from a new thing and the old one from which it comes to the parts that have a cell.
 ghost use Rattle.std.specs.Prelude.{◌≡◌, ◌*◌, ◌≤◌, ℕ, suc, List, length, Option, Some, None, IsSome, IfSome, MatchOption, option_and_then};
-ghost use Rattle.kt_types.specs.Layout.{cells_before, IsFitting};
+ghost use Rattle.kt_types.specs.Layout.{joined, layout, IsFitting};
+ghost use Rattle.kt_types.specs.declared.kinds.Ty.{Ty};
 ghost use Rattle.kt_types.specs.Table.{fields_of};
 ghost use Rattle.kt_types.specs.declared.kinds.Ty.TheVariants as ty;
 ghost use Rattle.xf_plan.specs.Plain.{field_rule_of, plan_of};
@@ -13,6 +14,7 @@ ghost use Rattle.xf_eval.specs.Parts.{find_rule, AreSized, IsWithin, LeadsBy};
 use crate::fields::{self, steps_to};
 use crate::found::Found;
 use kt_types::Ty;
+use sqlite_items::at;
 use xf_plan::{FieldRule, FieldSource, RulePlan};
 
 /// A part of a new thing, and the old one from which it comes: their types, the place of the cell in the new part, and how
@@ -60,7 +62,7 @@ pub(crate) fn way_to<'p>(plan: &'p RulePlan, old: u32, new: u32, cell: u32) -> O
 fn struct_way<'p>(plan: &'p RulePlan, s: u32, r: u32, cell: u32, most: u32) -> Option<Way<'p>>
     requires plan { IsWhole (plan_of plan.now) }
     requires few { most ≤ 65536 }
-    requires cells { IfSome (fields_of plan.now.old s) (λ fields. cells_before plan.now.old fields (length fields) ≤ most) }
+    requires cells { IfSome (fields_of plan.now.old s) (λ fields. (cs : List Ty) → joined (layout plan.now.old) fields ≡ Some cs → length cs ≤ most) }
     ensures leads { (at : ℕ → ℕ → Option (List Source)) → AreSized plan.now.new at → IsSome (at_place (option_and_then (λ fields. of_fields (plan_of plan.now) at fields (rules_of (plan_of plan.now) r)) (fields_of plan.now.old s)) cell) → LeadsBy at (at_place (option_and_then (λ fields. of_fields (plan_of plan.now) at fields (rules_of (plan_of plan.now) r)) (fields_of plan.now.old s)) cell) result }
     ensures within { IsWithin plan.now.old most result }
 {
@@ -68,7 +70,7 @@ fn struct_way<'p>(plan: &'p RulePlan, s: u32, r: u32, cell: u32, most: u32) -> O
     let (rule, cell) = rule_at(plan, r, cell)?;
     match &rule.source {
         FieldSource::OldField(k) => {
-            let field = fields.get(*k as usize)?;
+            let field = at(fields, *k as usize)?;
             Some(Way::Into(Part {
                 old: field.ty,
                 new: rule.ty,
