@@ -12,9 +12,12 @@ use Rattle.kt_types.proofs.Cells.{length-repeated}
 use Rattle.kt_types.proofs.Complete.{value-of}
 use Rattle.xf_plan.specs.Plan.{Plan, is_pair, rules_of}
 use Rattle.xf_plan.specs.Correspondence.{scalar_converts}
-use Rattle.xf_plan.specs.Sources.{Source, FromCell, width, of_fields, of_longer, of_types, sources_within}
+use Rattle.xf_plan.specs.Sources.{Source, FromCell, moved_by, width, of_fields, of_longer, of_types, sources_within}
 use Rattle.xf_plan.specs.Whole.{IsWhole}
 use Rattle.xf_eval.specs.Asked.{at_place}
+use Rattle.xf_eval.specs.Parts.{AtMost, StaysWithin}
+use Rattle.xf_eval.specs.declared.found.Found.{Found}
+use Rattle.xf_eval.specs.declared.found.Found.TheVariants.{Cell, Zero, Body}
 use Rattle.xf_eval.proofs.Sizes.{as-width, known-layout}
 
 module _ (p : Plan) (n a b i : ℕ) where
@@ -85,3 +88,18 @@ array-cells p whole a c k is complete =
     let law = known-layout p.old a (Array c k) (whole.old_layouts a) is in
     let here : layout p.old a ≡ Some (repeated k cs) = law ∙ ap (option_map (repeated k)) has in
     ap (λ z. k * z) (as-width p.old c cs has) ∙ sym (length-repeated k cs) ∙ sym (as-width p.old a (repeated k cs) here)
+
+-- ---- what was found
+
+pub inner-some : (k : ℕ) (o : Option Source) → IsSome (option_map (moved_by k) o) → IsSome o
+inner-some k None h = absurd (false≢true h)
+inner-some k (Some s) h = refl
+
+at-most : (n m : ℕ) (o : Option ℕ) → n ≤ m → AtMost n o → AtMost m o
+at-most n m None le h = tt
+at-most n m (Some k) le h = omega (arith, le, h)
+
+pub stays-wider : (n m : ℕ) (f : Found) → n ≤ m → StaysWithin n f → StaysWithin m f
+stays-wider n m (Cell k) le h = omega (arith, le, h)
+stays-wider n m Zero le h = tt
+stays-wider n m (Body source base body) le h = (at-most n m source le h.0, at-most n m base le h.1)

@@ -8,3 +8,4 @@ pub mod Rules
 pub mod Structs
 pub mod Sizes
 pub mod Descent
+pub mod Asking

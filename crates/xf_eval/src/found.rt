@@ -23,7 +23,7 @@ impl<'p> Found<'p> {
     pub(crate) fn moved_by(self, cells: u32, most: u32) -> Found<'p>
         requires within { StaysWithin most self }
         requires room { cells + most < 2 ^ 32 }
-        ensures moved { source_of result.exit ≡ moved_by cells (source_of self.entry) }
+        ensures moved { source_of result ≡ moved_by cells (source_of self.entry) }
         ensures within { StaysWithin (cells + most) result }
     {
         match self {

@@ -1,5 +1,6 @@
 //! The source of a new cell, found by going down to it.
 ghost use Rattle.std.specs.Prelude.{◌≡◌, ℕ, ◌*◌, ◌≤◌, Some, IsSome, option_and_then};
+ghost use Rattle.std.specs.Option.{option_map};
 ghost use Rattle.xf_plan.specs.Plain.{global_rule_of, plan_of};
 ghost use Rattle.xf_plan.specs.Sources.{global_sources, of_longer, sources, width};
 ghost use Rattle.xf_plan.specs.Whole.{HasFewCells, IsWhole};
@@ -26,15 +27,17 @@ pub(crate) fn source_of<'p>(plan: &'p RulePlan, from: u32, to: u32, cell: u32) -
         start: 0,
     };
     for _ in 0..plan.new.type_count() {
-        match way_to(plan, part.old, part.new, part.cell) {
-            Some(Way::Ends(found)) => return found.moved_by(part.start, most - part.start),
-            Some(Way::Into(next)) => {
+        let Some(step) = way_to(plan, part.old, part.new, part.cell) else {
+            unreachable!();
+        };
+        match step {
+            Way::Ends(found) => return found.moved_by(part.start, most - part.start),
+            Way::Into(next) => {
                 part = Part {
                     start: part.start + next.start,
                     ..next
                 };
             }
-            None => unreachable!(),
         }
     }
     unreachable!()
@@ -50,8 +53,7 @@ pub(crate) fn global_source<'p>(plan: &'p RulePlan, rule: &'p GlobalRule, cell: 
 {
     match &rule.source {
         GlobalSource::OldGlobal(_, old, count) => element_source(plan, *old, rule.ty, *count, cell),
-        GlobalSource::GlobalBody(None, body) => Found::Body(None, None, body),
-        GlobalSource::GlobalBody(Some(_), body) => Found::Body(Some(0), None, body),
+        GlobalSource::GlobalBody(source, body) => Found::Body(start_of(*source), None, body),
         GlobalSource::Unmapped => unreachable!(),
     }
 }
@@ -71,4 +73,14 @@ fn element_source<'p>(plan: &'p RulePlan, from: u32, to: u32, count: u32, cell: 
     }
     let step = fields::width(&plan.old, from);
     source_of(plan, from, to, cell % wide).moved_by(element * step, step)
+}
+
+// Where a global begins, if there is one.
+fn start_of(global: Option<u32>) -> Option<u32>
+    ensures { result ≡ option_map (λ i. 0) global }
+{
+    match global {
+        Some(_) => Some(0),
+        None => None,
+    }
 }

@@ -1,6 +1,6 @@
 //! One step down, from a new thing and the old one from which it comes to the parts that have a cell.
 ghost use Rattle.std.specs.Prelude.{◌≡◌, ◌*◌, ◌≤◌, ℕ, suc, List, length, Option, Some, None, IsSome, IfSome, MatchOption, option_and_then};
-ghost use Rattle.kt_types.specs.Layout.{joined, layout, IsFitting};
+ghost use Rattle.kt_types.specs.Layout.{cells_before, joined, layout, IsFitting};
 ghost use Rattle.kt_types.specs.declared.kinds.Ty.{Ty};
 ghost use Rattle.kt_types.specs.Table.{fields_of};
 ghost use Rattle.kt_types.specs.declared.kinds.Ty.TheVariants as ty;
@@ -9,11 +9,12 @@ ghost use Rattle.xf_plan.specs.Plan.{rules_of};
 ghost use Rattle.xf_plan.specs.Sources.{Source, of_fields, of_longer, sources_within, width};
 ghost use Rattle.xf_plan.specs.Whole.{IsWhole};
 ghost use Rattle.xf_eval.specs.Asked.{at_place};
-ghost use Rattle.xf_eval.specs.Parts.{find_rule, AreSized, IsWithin, LeadsBy};
+ghost use Rattle.xf_eval.specs.Parts.{find_rule, AreSized, AtMost, IsWithin, LeadsBy};
+ghost use Rattle.std.specs.Option.{option_map};
 
 use crate::fields::{self, steps_to};
 use crate::found::Found;
-use kt_types::Ty;
+use kt_types::{FieldDecl, Ty, TypeTable};
 use sqlite_items::at;
 use xf_plan::{FieldRule, FieldSource, RulePlan};
 
@@ -79,11 +80,30 @@ fn struct_way<'p>(plan: &'p RulePlan, s: u32, r: u32, cell: u32, most: u32) -> O
             }))
         }
         FieldSource::ZeroField => Some(Way::Ends(Found::Zero)),
-        FieldSource::FieldBody(None, body) => Some(Way::Ends(Found::Body(None, Some(0), body))),
-        FieldSource::FieldBody(Some(k), body) => {
-            let source = steps_to(&plan.old, s, fields, *k);
-            Some(Way::Ends(Found::Body(Some(source), Some(0), body)))
+        FieldSource::FieldBody(source, body) => {
+            let source = place_of(&plan.old, s, fields, *source, most);
+            Some(Way::Ends(Found::Body(source, Some(0), body)))
         }
+    }
+}
+
+// How many cells stand before the field of that number, if any, of a struct of that many cells.
+fn place_of(
+    types: &TypeTable,
+    s: u32,
+    fields: &[FieldDecl],
+    source: Option<u32>,
+    most: u32,
+) -> Option<u32>
+    requires known { fields_of types.now s ≡ Some fields.now }
+    requires cells { cells_before types.now fields.now (length fields.now) ≤ most }
+    requires few { most ≤ 65536 }
+    ensures place { result ≡ option_map (cells_before types.now fields.now) source }
+    ensures within { AtMost most result }
+{
+    match source {
+        Some(k) => Some(steps_to(types, s, fields, k)),
+        None => None,
     }
 }
 

@@ -5,7 +5,7 @@ use Rattle.kt_types.specs.declared.kinds.Ty.{Ty}
 use Rattle.kt_types.specs.Layout.{cells_before, joined, layout}
 use Rattle.kt_types.specs.Table.{fields_of}
 use Rattle.xf_plan.specs.Plain.{plan_of, field_rule_of, field_source_of, actions_of}
-use Rattle.xf_plan.specs.Plan.{FieldBody, rules_of}
+use Rattle.xf_plan.specs.Plan.{rules_of}
 use Rattle.xf_plan.specs.Sources.{FromBody, moved_by, of_field, width}
 use Rattle.xf_eval.specs.Asked.{at_place}
 use Rattle.xf_eval.specs.Parts.{find_rule}
@@ -86,50 +86,25 @@ returns-in-ZeroField-clause-leads c = λ at sized h.
     let there = within ∙ ap (λ s. at_place (of_field p at fields f s) j) kind in
     there ∙ all-zero (width p.new f.ty) j (subst (λ o. IsSome o) there h)
 
-pub returns-in-FieldBody-None-default-clause-leads : goal.returns-in-FieldBody-None-default-clause-leads
-returns-in-FieldBody-None-default-clause-leads c = λ at sized h.
+pub returns-in-FieldBody-clause-leads : goal.returns-in-FieldBody-clause-leads
+returns-in-FieldBody-clause-leads c = λ at sized h.
     let p = plan_of c.args.plan.now in
     let fields = c.in_ok-fields.fields.now in
     let f = field_rule_of c.in_ok-rule.rule.now in
     let j = c.in_ok-rule.cell in
-    let s = c.in-FieldBody-None-default in
+    let s = c.in-FieldBody in
     let known : fields_of p.old c.args.s ≡ Some fields = sym c.in_ok-fields.ensures.found in
     let found : find_rule p.new (rules_of p c.args.r) c.args.cell ≡ Some (f, j) = c.in_ok-rule.ensures in
     let within = in-field p at sized fields (fields_of p.old c.args.s) known (rules_of p c.args.r) c.args.cell (f, j) (all-rules-fill p c.requires.plan c.args.r) found h in
-    let kind = ap field_source_of s.is ∙ ap (λ o. FieldBody o (actions_of s.body)) s.field-0-is in
+    let kind = ap field_source_of s.is in
     let there = within ∙ ap (λ s. at_place (of_field p at fields f s) j) kind in
-    there ∙ body-field p at sized fields f None (actions_of s.body) j (subst (λ o. IsSome o) there h)
+    there ∙ body-field p at sized fields f s.source (actions_of s.body) j (subst (λ o. IsSome o) there h)
+    ∙ ap (λ o. Some (FromBody o (Some 0) (actions_of s.body))) (sym c.place_of-source.ensures.place)
 
-pub returns-in-FieldBody-Some-default-clause-leads : goal.returns-in-FieldBody-Some-default-clause-leads
-returns-in-FieldBody-Some-default-clause-leads c = λ at sized h.
+pub place_of-source-requires-clause-cells : goal.place_of-source-requires-clause-cells
+place_of-source-requires-clause-cells c =
     let p = plan_of c.args.plan.now in
     let fields = c.in_ok-fields.fields.now in
-    let f = field_rule_of c.in_ok-rule.rule.now in
-    let j = c.in_ok-rule.cell in
-    let s = c.in-FieldBody-Some-default in
-    let k = s.k in
-    let known : fields_of p.old c.args.s ≡ Some fields = sym c.in_ok-fields.ensures.found in
-    let found : find_rule p.new (rules_of p c.args.r) c.args.cell ≡ Some (f, j) = c.in_ok-rule.ensures in
-    let within = in-field p at sized fields (fields_of p.old c.args.s) known (rules_of p c.args.r) c.args.cell (f, j) (all-rules-fill p c.requires.plan c.args.r) found h in
-    let kind = ap field_source_of s.is ∙ ap (λ o. FieldBody o (actions_of s.body)) s.field-0-is in
-    let there = within ∙ ap (λ s. at_place (of_field p at fields f s) j) kind in
-    let bound = subst (λ o. IfSome o (λ fs. (cs : List Ty) → joined (layout p.old) fs ≡ Some cs → length cs ≤ c.args.most)) known c.requires.cells in
-    let few = few-cells p.old fields c.args.most c.in_ok-fields.ensures.complete bound in
-    let end = before-end p.old fields k in
-    let low : cells_before p.old fields k ≤ c.args.most = omega (arith, few, end) in
-    let exact = exact-step (cells_before p.old fields k) c.steps_to-source.result c.args.most c.steps_to-source.ensures low c.requires.few in
-    there ∙ body-field p at sized fields f (Some k) (actions_of s.body) j (subst (λ o. IsSome o) there h)
-    ∙ ap (λ n. Some (FromBody (Some n) (Some 0) (actions_of s.body))) exact
-
-pub returns-in-FieldBody-Some-default-clause-within : goal.returns-in-FieldBody-Some-default-clause-within
-returns-in-FieldBody-Some-default-clause-within c =
-    let p = plan_of c.args.plan.now in
-    let fields = c.in_ok-fields.fields.now in
-    let k = c.in-FieldBody-Some-default.k in
     let known : fields_of p.old c.args.s ≡ Some fields = sym c.in_ok-fields.ensures.found in
     let bound = subst (λ o. IfSome o (λ fs. (cs : List Ty) → joined (layout p.old) fs ≡ Some cs → length cs ≤ c.args.most)) known c.requires.cells in
-    let few = few-cells p.old fields c.args.most c.in_ok-fields.ensures.complete bound in
-    let end = before-end p.old fields k in
-    let low : cells_before p.old fields k ≤ c.args.most = omega (arith, few, end) in
-    let exact = exact-step (cells_before p.old fields k) c.steps_to-source.result c.args.most c.steps_to-source.ensures low c.requires.few in
-    (omega (arith, exact, low), omega arith)
+    few-cells p.old fields c.args.most c.in_ok-fields.ensures.complete bound
