@@ -5,7 +5,8 @@ use Rattle.std.proofs.Common.{◌≡◌, ℕ, zero, suc, ◌+◌, ◌-◌, ◌*�
 use Rattle.std.proofs.Math.Nat.{suc-mul, mod-lt, mul-le-mul_right, add-mul}
 use Rattle.std.proofs.lemmas.Nat.{div-add-mod'}
 use Rattle.std.proofs.lemmas.List.{length-map, length-replicate}
-use Rattle.std.proofs.lemmas.Option.{slice_get-map, none-some}
+use Rattle.std.proofs.lemmas.Option.{slice_get-map, none-some, slice_get_within}
+use Rattle.kt_types.proofs.Complete.{value-of}
 use Rattle.std.proofs.lemmas.Bool.{false≢true, leb-true}
 use Rattle.kt_types.proofs.Cells.{slice_get-append_left, slice_get-append_right}
 use Rattle.xf_plan.specs.Sources.{Source, FromCell, Zero, FromBody, moved_by, of_elements, of_longer}
@@ -147,3 +148,20 @@ longer-length w n z m xs ys sized e = by (nat_le n m) refl e
         let back : length (replicate ((m - n) * z) Zero) ≡ (m - n) * z = length-replicate ((m - n) * z) Zero in
         ap length (sym same) ∙ length-append (of_elements w n xs) (replicate ((m - n) * z) Zero) ∙ (omega (arith, front, back, apart, up))
     by false fits e = absurd (none-some ys e)
+
+-- where it has a cell, its elements have one
+pub longer-positive : (w n z m i : ℕ) (o : Option (List Source)) → ((xs : List Source) → o ≡ Some xs → length xs ≡ z) →
+    IsSome (at_place (option_and_then (of_longer w n z m) o) i) → 0 < z
+longer-positive w n z m i None sized h = absurd (false≢true h)
+longer-positive w n z m i (Some xs) sized h = by (of_longer w n z m xs) refl h
+  where
+    positive : (k : ℕ) → i < m * k → 0 < k
+    positive zero lt = absurd (omega (arith, lt))
+    positive (suc k) lt = omega arith
+
+    by : (r : Option (List Source)) → of_longer w n z m xs ≡ r → IsSome (at_place r i) → 0 < z
+    by None e h = absurd (false≢true h)
+    by (Some ys) e h =
+        let long = longer-length w n z m xs ys (sized xs refl) e in
+        let (s, is) = value-of (slice_get ys i) h in
+        positive z (subst (λ l. i < l) long (slice_get_within ys i s is))

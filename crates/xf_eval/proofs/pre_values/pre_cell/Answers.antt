@@ -16,7 +16,7 @@ pub cell_value-requires-clause-element : goal.cell_value-requires-clause-element
 cell_value-requires-clause-element c =
     let p = plan_of c.args.plan.now in
     let o = shown c.in-Some.old.now in
-    let is : (memory c.args.heap.now).at (Heap c.args.object) ≡ Some o = sym c.object-object.ensures ∙ ap (λ x. option_map shown (option_copied x)) c.in-Some.is in
+    let is : (memory c.args.heap.now).at (Heap c.args.object) ≡ Some o = sym c.object.ensures ∙ ap (λ x. option_map shown (option_copied x)) c.in-Some.is in
     let its : IsElement p c.args.element o = subst (λ (x : Option Object). IfSome x (λ o. IsElement p c.args.element o)) is c.requires.element in
     let up : (c.args.element + 1) * width p.old o.ty ≤ o.count * width p.old o.ty =
     mul-le-mul_right (width p.old o.ty) (let le : c.args.element + 1 ≤ o.count = omega (arith, its.within) in le) in
@@ -28,7 +28,7 @@ cell_value-requires-clause-there c =
     let m = memory c.args.heap.now in
     let n = Heap c.args.object in
     let o = shown c.in-Some.old.now in
-    let is : m.at n ≡ Some o = sym c.object-object.ensures ∙ ap (λ x. option_map shown (option_copied x)) c.in-Some.is in
+    let is : m.at n ≡ Some o = sym c.object.ensures ∙ ap (λ x. option_map shown (option_copied x)) c.in-Some.is in
     there-on (element_cell p m n c.args.element c.args.cell) (m.at n) o is c.requires.there
 
 pub unreachable-requires : goal.unreachable-requires
@@ -36,7 +36,7 @@ unreachable-requires c =
     let p = plan_of c.args.plan.now in
     let m = memory c.args.heap.now in
     let n = Heap c.args.object in
-    let is : m.at n ≡ None = sym c.object-object.ensures ∙ ap (λ x. option_map shown (option_copied x)) c.in-None.is in
+    let is : m.at n ≡ None = sym c.object.ensures ∙ ap (λ x. option_map shown (option_copied x)) c.in-None.is in
     nothing-there (element_cell p m n c.args.element c.args.cell) (m.at n) is c.requires.there
 
 pub returns : goal.returns
@@ -45,5 +45,5 @@ returns c =
     let m = memory c.args.heap.now in
     let n = Heap c.args.object in
     let o = shown c.in-Some.old.now in
-    let is : m.at n ≡ Some o = sym c.object-object.ensures ∙ ap (λ x. option_map shown (option_copied x)) c.in-Some.is in
+    let is : m.at n ≡ Some o = sym c.object.ensures ∙ ap (λ x. option_map shown (option_copied x)) c.in-Some.is in
     answered _ c.cell_value.result c.answer.result (through (element_cell p m n c.args.element c.args.cell) (m.at n) o is ∙ c.cell_value.ensures) c.answer.ensures
