@@ -1,7 +1,6 @@
 -- What is asked for, and its parts.
 use Rattle.std.specs.Prelude.{IsSome, IfSome, option_and_then}
-use Rattle.std.specs.Option.{option_map}
-use Rattle.std.proofs.Common.{◌≡◌, ℕ, ◌<◌, List, length, slice_get, Option, None, Some, Result, refl, ap, sym, subst, ◌∙◌}
+use Rattle.std.proofs.Common.{◌≡◌, ℕ, ◌<◌, List, length, slice_get, Option, None, Some, Result, refl, ap, sym, subst}
 use Rattle.std.proofs.lemmas.Bool.{false≢true}
 use Rattle.std.proofs.lemmas.Option.{slice_get_within}
 use Rattle.kt_types.specs.declared.kinds.Ty.{Ty}

@@ -1,12 +1,12 @@
 -- One step down to a cell.
 use Rattle.std.specs.Prelude.{IsSome, IfSome, option_and_then}
 use Rattle.std.specs.Option.{option_map}
-use Rattle.std.proofs.Common.{◌≡◌, ℕ, zero, suc, ◌+◌, ◌*◌, ◌≤◌, Bool, true, false, cond, List, [], ◌∷◌, length, slice_get, Option, None, Some, refl, sym, ap, subst, ◌∙◌, arith}
+use Rattle.std.proofs.Common.{◌≡◌, ℕ, zero, suc, ◌*◌, ◌≤◌, Bool, true, false, cond, List, [], ◌∷◌, length, slice_get, Option, None, Some, refl, sym, ap, subst, ◌∙◌, arith}
 use Rattle.std.proofs.lemmas.Bool.{false≢true}
 use Rattle.kt_types.specs.declared.kinds.FieldDecl.{FieldDecl}
 use Rattle.kt_types.specs.declared.kinds.Ty.{Ty}
-use Rattle.kt_types.specs.declared.kinds.Ty.TheVariants.{Char, Int, Long, Mutex, Struct, Array, Ptr}
-use Rattle.kt_types.specs.Table.{Table, fields_of}
+use Rattle.kt_types.specs.declared.kinds.Ty.TheVariants.{Struct, Array}
+use Rattle.kt_types.specs.Table.{fields_of}
 use Rattle.kt_types.specs.Layout.{layout, joined, repeated, IsComplete}
 use Rattle.kt_types.proofs.Cells.{length-repeated}
 use Rattle.kt_types.proofs.Complete.{value-of}

@@ -1,6 +1,6 @@
 -- Which rule has a cell, as the code looks it up.
-use Rattle.std.specs.Prelude.{filter, IsSome}
-use Rattle.std.proofs.Common.{◌≡◌, ℕ, zero, suc, ◌+◌, ◌-◌, ◌<◌, ◌≤◌, ◌==◌, Bool, true, false, List, [], ◌∷◌, map, slice_get, Some, refl, sym, ap, ◌∙◌, arith, inl, inr}
+use Rattle.std.specs.Prelude.{filter}
+use Rattle.std.proofs.Common.{◌≡◌, ℕ, suc, ◌-◌, ◌<◌, ◌≤◌, ◌==◌, List, ◌∷◌, map, Some, refl, arith, inl, inr}
 use Rattle.std.proofs.lemmas.Bool.{cases_Bool, eqb-true, eq-eqb, le-leb, lt-leb}
 use Rattle.kt_types.specs.Table.{Table}
 use Rattle.xf_plan.specs.Plain.{field_rule_of}

@@ -1,13 +1,13 @@
 -- The sources of a type are as many as it has cells.
-use Rattle.std.specs.Prelude.{IsSome, MatchOption, option_and_then, unwrap_or}
+use Rattle.std.specs.Prelude.{MatchOption, option_and_then, unwrap_or}
 use Rattle.std.specs.Option.{option_map}
-use Rattle.std.proofs.Common.{◌≡◌, ◌==◌, ℕ, zero, suc, ◌+◌, ◌*◌, Bool, true, false, cond, List, [], ◌∷◌, ◌++◌, length, length-append, map, slice_get, Option, None, Some, refl, sym, ap, subst, ◌∙◌, arith, inl, inr}
+use Rattle.std.proofs.Common.{◌≡◌, ◌==◌, ℕ, zero, suc, ◌+◌, ◌*◌, Bool, true, false, cond, List, [], ◌∷◌, ◌++◌, length, length-append, map, slice_get, Option, None, Some, refl, sym, ap, subst, ◌∙◌, arith}
 use Rattle.std.proofs.lemmas.Option.{none-some, option_and_then_some}
 use Rattle.kt_types.specs.declared.kinds.FieldDecl.{FieldDecl}
 use Rattle.kt_types.specs.declared.kinds.Ty.{Ty}
 use Rattle.kt_types.specs.declared.kinds.Ty.TheVariants.{Char, Int, Long, Mutex, Struct, Array, Ptr}
 use Rattle.kt_types.specs.Table.{Table, fields_of}
-use Rattle.kt_types.specs.Layout.{cells, cells_before, layout, joined, repeated, struct_layout, type_cells}
+use Rattle.kt_types.specs.Layout.{cells_before, layout, joined, repeated, struct_layout, type_cells}
 use Rattle.kt_types.proofs.Cells.{joined-length, length-repeated}
 use Rattle.kt_types.proofs.Complete.{value-of}
 use Rattle.kt_types.proofs.Growth.{option_map_some}

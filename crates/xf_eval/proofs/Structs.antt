@@ -1,7 +1,7 @@
 -- Sources of the fields of a struct, one after another.
 use Rattle.std.specs.Prelude.{filter, IsSome, option_and_then}
 use Rattle.std.specs.Option.{option_map}
-use Rattle.std.proofs.Common.{◌≡◌, ℕ, zero, suc, ◌+◌, ◌-◌, ◌<◌, ◌≤◌, nat_lt, Bool, true, false, cond, List, [], ◌∷◌, ◌++◌, length, length-append, map, replicate, slice_get, Option, None, Some, refl, sym, ap, subst, ◌∙◌, arith, inl, inr}
+use Rattle.std.proofs.Common.{◌≡◌, ℕ, zero, suc, ◌+◌, ◌-◌, ◌<◌, ◌≤◌, nat_lt, Bool, true, false, cond, List, [], ◌∷◌, ◌++◌, length, map, replicate, slice_get, Option, None, Some, refl, sym, ap, subst, ◌∙◌, arith, inl, inr}
 use Rattle.std.proofs.lemmas.List.{length-map, length-replicate}
 use Rattle.std.proofs.lemmas.Option.{slice_get-map, none-some, option_and_then_some, slice_get_within}
 use Rattle.std.proofs.lemmas.Bool.{cases_Bool, false≢true, leb-true, leb-false}
@@ -13,13 +13,12 @@ use Rattle.kt_types.proofs.Cells.{slice_get-append_left, slice_get-append_right,
 use Rattle.kt_types.proofs.Complete.{value-of}
 use Rattle.kt_types.proofs.Growth.{option_map_some}
 use Rattle.xf_plan.specs.Bodies.{Actions}
-use Rattle.xf_plan.specs.Plan.{Plan, FieldRule, FieldSource, OldField, ZeroField, FieldBody, rules_of}
-use Rattle.xf_plan.specs.Sources.{Source, FromCell, Zero, FromBody, moved_by, width, old_field, of_field, of_fields}
+use Rattle.xf_plan.specs.Plan.{Plan, FieldRule, FieldSource, OldField, ZeroField, FieldBody}
+use Rattle.xf_plan.specs.Sources.{Source, Zero, FromBody, moved_by, width, old_field, of_field, of_fields}
 use Rattle.xf_plan.specs.Whole.{FillsCell}
 use Rattle.xf_eval.specs.Asked.{at_place}
 use Rattle.xf_eval.specs.Parts.{find_rule, AreSized}
 use Rattle.xf_eval.specs.Steps.{LeadsAsFar}
-use Rattle.xf_eval.proofs.Elements.{all-zero}
 
 -- ---- each body fills a cell
 

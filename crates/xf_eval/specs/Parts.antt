@@ -1,8 +1,8 @@
 -- From where a cell of a new thing has its value, as the code goes down to it, part by part. No public clause cites this module.
-use Rattle.std.specs.Prelude.{◌≡◌, ℕ, suc, ◌+◌, ◌-◌, ◌≤◌, nat_lt, List, [], ◌∷◌, length, slice_get, Option, None, Some, option_and_then, IsSome, if◌then◌else◌}
+use Rattle.std.specs.Prelude.{◌≡◌, ℕ, ◌+◌, ◌-◌, ◌≤◌, nat_lt, List, [], ◌∷◌, length, Option, None, Some, if◌then◌else◌}
 use Rattle.std.specs.Option.{option_map}
 use Rattle.kt_types.specs.Table.{Table}
-use Rattle.xf_plan.specs.Plan.{Plan, FieldRule}
+use Rattle.xf_plan.specs.Plan.{FieldRule}
 use Rattle.xf_plan.specs.Plain.{actions_of}
 use Rattle.xf_plan.specs.Sources.{Source, FromCell, FromBody, moved_by, sources_within, width}
 use Rattle.xf_plan.specs.Sources as source

@@ -1,11 +1,10 @@
-use Rattle.std.specs.Prelude.{IsSome, Option, option_and_then}
+use Rattle.std.specs.Prelude.{IsSome, Option}
 use Rattle.std.specs.Option.{option_map}
 use Rattle.std.proofs.Common.{◌≡◌, ◌+◌, ◌*◌, ◌/◌, ◌%◌, ◌<◌, ◌≤◌, length, Some, ap, sym, subst, ◌∙◌, arith}
 use Rattle.std.proofs.Math.Nat.{mul-le-mul_right, add-mul}
 use Rattle.xf_plan.specs.Plain.{plan_of}
-use Rattle.xf_plan.specs.Sources.{Source, moved_by, of_longer, sources, width}
-use Rattle.xf_eval.specs.Asked.{at_place, source_at}
-use Rattle.xf_eval.specs.Parts.{StaysWithin, source_of}
+use Rattle.xf_plan.specs.Sources.{Source, moved_by, sources, width}
+use Rattle.xf_eval.specs.Asked.{at_place}
 use Rattle.xf_eval.proofs.Elements.{array-into, array-rest, longer-fits, longer-positive}
 use Rattle.xf_eval.proofs.Sizes.{are-sized}
 use Rattle.xf_eval.proofs.Descent.{inner-some, stays-wider}

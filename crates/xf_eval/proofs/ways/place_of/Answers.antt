@@ -1,5 +1,5 @@
 use Rattle.std.specs.Option.{option_map}
-use Rattle.std.proofs.Common.{◌≡◌, ◌≤◌, Some, ap, sym, ◌∙◌, arith}
+use Rattle.std.proofs.Common.{◌≤◌, Some, ap, sym, ◌∙◌, arith}
 use Rattle.kt_types.specs.Layout.{cells_before}
 use Rattle.xf_eval.proofs.Structs.{before-end, exact-step}
 use Rattle.xf_eval.proofs.ways.place_of.Goals as goal

@@ -1,6 +1,5 @@
-use Rattle.std.proofs.Common.{◌≡◌, ◌+◌, ◌-◌, ◌<◌, ◌≤◌, ◌∷◌, Some, drop, ap, sym, subst, ◌∙◌}
+use Rattle.std.proofs.Common.{◌≡◌, ◌+◌, ◌-◌, ◌<◌, ◌≤◌, ◌∷◌, drop, ap, sym, subst, ◌∙◌}
 use Rattle.std.proofs.lemmas.List.{drop_more}
-use Rattle.xf_plan.specs.Plain.{field_rule_of}
 use Rattle.xf_plan.specs.Sources.{width}
 use Rattle.xf_eval.specs.Parts.{find_rule}
 use Rattle.xf_eval.proofs.Rules.{rules_in, rule-here, rule-behind, rule-other}

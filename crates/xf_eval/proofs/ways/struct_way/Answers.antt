@@ -1,4 +1,4 @@
-use Rattle.std.specs.Prelude.{IsSome, IfSome, option_and_then}
+use Rattle.std.specs.Prelude.{IsSome, IfSome}
 use Rattle.std.specs.Option.{option_copied, option_map}
 use Rattle.std.proofs.Common.{◌≡◌, ◌≤◌, List, length, slice_get, Some, None, ap, sym, subst, ◌∙◌, arith}
 use Rattle.kt_types.specs.declared.kinds.Ty.{Ty}
