@@ -9,3 +9,7 @@ pub mod Structs
 pub mod Sizes
 pub mod Descent
 pub mod Asking
+pub mod NumberedOperations
+pub mod GivenOperations
+pub mod Numbered
+pub mod NumberedCells

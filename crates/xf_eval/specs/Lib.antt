@@ -3,3 +3,4 @@ pub mod Operands
 pub mod Readings
 pub mod Asked
 pub mod Parts
+pub mod ByNumber

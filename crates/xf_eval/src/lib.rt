@@ -11,6 +11,7 @@ mod defaults;
 mod faults;
 mod fields;
 mod found;
+mod laws;
 mod operands;
 mod operations;
 mod pre_values;
@@ -18,4 +19,5 @@ mod sources;
 mod ways;
 
 pub use faults::PreFault;
+pub use laws::by_number_law;
 pub use pre_values::{pre_argument, pre_cell, pre_global, pre_local};

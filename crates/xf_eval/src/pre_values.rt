@@ -2,13 +2,15 @@
 ghost use Rattle.std.specs.Prelude.{◌≡◌, ◌+◌, ◌*◌, ◌<◌, ◌≤◌, true, IsSome, IfSome, Some, slice_get, length, map, option_and_then};
 ghost use Rattle.kt_types.specs.Layout.{cells};
 ghost use Rattle.kt_mem.specs.declared.memory.Name.TheVariants as name;
-ghost use Rattle.kt_heap.specs.Heap.{memory};
+ghost use Rattle.kt_heap.specs.Heap.{given, memory};
+ghost use Rattle.kt_heap.specs.ByNumber.{by_number, number_of, value_by_number, HoldsGiven, WasGiven};
 ghost use Rattle.xf_plan.specs.Correspondence.{converts, new_type};
 ghost use Rattle.xf_plan.specs.Plain.{global_rule_of, global_source_of, local_rule_of, local_source_of, plan_of};
 ghost use Rattle.xf_plan.specs.PreValues.{origin, pre_argument, pre_local};
 ghost use Rattle.xf_plan.specs.Sources.{width};
 ghost use Rattle.xf_plan.specs.Whole.{HasFewCells, IsWhole};
 ghost use Rattle.std.specs.Option.{option_copied, option_map};
+ghost use Rattle.xf_eval.specs.ByNumber.{answered_by_number};
 ghost use Rattle.xf_eval.specs.Asked.{Answers, IsElement, cell_value, part_cell, global_cell, global_value, local_value, local_rule};
 
 use crate::bodies::body_value;
@@ -50,8 +52,10 @@ pub fn pre_cell(
     requires plan { IsWhole (plan_of plan.now) }
     requires element { IfSome ((memory heap.now).at (name.Heap object)) (λ o. IsElement (plan_of plan.now) element o) }
     requires there { IsSome (cell_value (plan_of plan.now) (memory heap.now) (name.Heap object) element cell) }
-    ensures { IfSome (cell_value (plan_of plan.now) (memory heap.now) (name.Heap object) element cell) (Answers result) }
+    ensures value { IfSome (cell_value (plan_of plan.now) (memory heap.now) (name.Heap object) element cell) (Answers result) }
+    ensures by_number { HoldsGiven (given heap.now) (memory heap.now) → IfSome (cell_value (plan_of plan.now) (by_number (given heap.now) (memory heap.now)) (name.Heap (number_of (given heap.now) object)) element cell) (Answers (answered_by_number (given heap.now) result)) }
 {
+    heap.law();
     match heap.object(object) {
         Some(old) => answer(cell_value(plan, heap, object, old.ty, element, cell)),
         None => unreachable!(),
@@ -102,8 +106,10 @@ pub fn pre_global(
 ) -> Result<PreValue, PreFault>
     requires plan { IsWhole (plan_of plan.now) }
     requires there { IsSome (global_value (plan_of plan.now) (memory heap.now) global cell) }
-    ensures { IfSome (global_value (plan_of plan.now) (memory heap.now) global cell) (Answers result) }
+    ensures value { IfSome (global_value (plan_of plan.now) (memory heap.now) global cell) (Answers result) }
+    ensures by_number { HoldsGiven (given heap.now) (memory heap.now) → IfSome (global_value (plan_of plan.now) (by_number (given heap.now) (memory heap.now)) global cell) (Answers (answered_by_number (given heap.now) result)) }
 {
+    heap.law();
     match plan.globals.get(global as usize) {
         Some(rule) => answer(global_value(plan, heap, rule, cell)),
         None => unreachable!(),
@@ -153,8 +159,10 @@ pub fn pre_local(
     source: Value,
 ) -> Result<PreValue, PreFault>
     requires { IsSome (local_value (plan_of plan.now) (memory heap.now) f local source) }
-    ensures { IfSome (local_value (plan_of plan.now) (memory heap.now) f local source) (Answers result) }
+    ensures value { IfSome (local_value (plan_of plan.now) (memory heap.now) f local source) (Answers result) }
+    ensures by_number { HoldsGiven (given heap.now) (memory heap.now) → WasGiven (given heap.now) source → IfSome (local_value (plan_of plan.now) (by_number (given heap.now) (memory heap.now)) f local (value_by_number (given heap.now) source)) (Answers (answered_by_number (given heap.now) result)) }
 {
+    heap.law();
     match local_value(plan, heap, f, local, source) {
         Some(value) => answer(value),
         None => unreachable!(),
