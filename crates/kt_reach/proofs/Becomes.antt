@@ -8,7 +8,7 @@ use Rattle.xf_plan.specs.Plain.{global_rule_of}
 use Rattle.xf_plan.specs.Plan.{GlobalRule}
 use Rattle.xf_plan.specs.Spots.{comes_from}
 use Rattle.xf_plan.specs.declared.plan.GlobalRule as code
-use Rattle.xf_plan.proofs.Conversions.{first-is, none-is}
+use Rattle.kt_reach.proofs.Firsts.{first-is, none-is}
 
 module _ (g : ℕ) (items : List code.GlobalRule) where
   abbrev rules : List GlobalRule

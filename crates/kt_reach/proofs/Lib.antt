@@ -1,6 +1,7 @@
 pub mod Marks
 pub mod Joined
 pub mod Levels
+pub mod Firsts
 pub mod Becomes
 pub mod Leads
 pub mod Orders

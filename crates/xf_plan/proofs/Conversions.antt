@@ -1,8 +1,10 @@
 -- Steps of the walks through pointers and arrays.
-use Rattle.std.proofs.Common.{◌≡◌, ◌<◌, ◌≤◌, ◌+◌, ◌-◌, ℕ, suc, nat_le, nat_lt, Bool, true, false, List, length, get_or, slice_get, Some, None, refl, arith}
-use Rattle.std.specs.List.{position, position_or_len}
-use Rattle.std.proofs.lemmas.Bool.{lt-ltb, le-ltb}
-use Rattle.std.proofs.lemmas.List.Sums.{position_or_len_is}
+use Rattle.std.proofs.Common.{◌≡◌, ◌<◌, ◌≤◌, ◌+◌, ◌-◌, ◌∙◌, ℕ, suc, nat_le, Bool, true, false, cond, List, ◌∷◌, length, drop, slice_get, None, Some, refl, sym, ap, arith}
+use Rattle.std.specs.List.{position, position_from}
+use Rattle.std.proofs.lemmas.Iterator.Adapters.{position_from-zero}
+use Rattle.std.proofs.lemmas.List.{drop_more, drop_all}
+use Rattle.std.proofs.lemmas.Option.{slice_get_within, get_or_from_slice_get}
+use Rattle.kt_types.specs.declared.kinds.Ty.{Ty}
 use Rattle.kt_types.specs.declared.kinds.Ty.TheVariants.{Array, Ptr}
 use Rattle.xf_plan.specs.Correspondence.{correspond_within, converts_within}
 use Rattle.xf_plan.specs.Plan.{Plan}
@@ -18,17 +20,21 @@ pub through-arrays : (p : Plan) (n m old new a b i j : ℕ) → n ≡ suc m → 
     → nat_le i j ≡ true → converts_within p n old new ≡ converts_within p m a b
 through-arrays p n m old new a b i j more is is' fits = rw (more, is, is', fits) refl
 
--- ---- the first that passes
+-- the first type from a place on that passes a test is the one at the place, or the first one behind it
+pub from-place : (f : Ty → Bool) (xs : List Ty) (i : ℕ) (u : Ty) → slice_get xs i ≡ Some u
+    → position_from f i (drop i xs) ≡ cond (f u) (Some i) (position_from f (i + 1) (drop (i + 1) xs))
+from-place f xs i u is =
+    ap (position_from f i) (drop_more xs i u (slice_get_within xs i u is) ∙ ap (λ (x : Ty). x ∷ drop (i + 1) xs) (get_or_from_slice_get xs i u u is))
 
-module _ {X : Type 0} (p : X → Bool) (xs : List X) (i : ℕ) (d : X) (within : i ≤ length xs) (before : (k : ℕ) → k < i → p (get_or xs k d) ≡ false) where
-  pub first-is : i < length xs → p (get_or xs i d) ≡ true → position p xs ≡ Some i
-  first-is low h =
-      let is : position_or_len p xs ≡ i = position_or_len_is p xs i d within before (λ l. h) in
-      let below : nat_lt i (length xs) ≡ true = lt-ltb i (length xs) low in
-      rw (is, below) refl
+pub found-at : (f : Ty → Bool) (xs : List Ty) (i : ℕ) (u : Ty) → slice_get xs i ≡ Some u → f u ≡ true
+    → position_from f i (drop i xs) ≡ position_from f 0 xs → Some i ≡ position f xs
+found-at f xs i u is passes so_far =
+    sym (from-place f xs i u is ∙ ap (λ b. cond b (Some i) (position_from f (i + 1) (drop (i + 1) xs))) passes) ∙ so_far ∙ sym (position_from-zero f xs)
 
-  pub none-is : length xs ≤ i → position p xs ≡ None
-  none-is most =
-      let is : position_or_len p xs ≡ i = position_or_len_is p xs i d within before (λ l. absurd (omega (arith, l, most))) in
-      let past : nat_lt i (length xs) ≡ false = le-ltb i (length xs) most in
-      rw (is, past) refl
+pub passed-by : (f : Ty → Bool) (xs : List Ty) (i : ℕ) (u : Ty) → slice_get xs i ≡ Some u → f u ≡ false
+    → position_from f i (drop i xs) ≡ position_from f 0 xs → position_from f (i + 1) (drop (i + 1) xs) ≡ position_from f 0 xs
+passed-by f xs i u is fails so_far =
+    sym (from-place f xs i u is ∙ ap (λ b. cond b (Some i) (position_from f (i + 1) (drop (i + 1) xs))) fails) ∙ so_far
+
+pub found-nowhere : (f : Ty → Bool) (xs : List Ty) (i : ℕ) → length xs ≤ i → position_from f i (drop i xs) ≡ position_from f 0 xs → None ≡ position f xs
+found-nowhere f xs i end so_far = sym (ap (position_from f i) (drop_all i xs end)) ∙ so_far ∙ sym (position_from-zero f xs)

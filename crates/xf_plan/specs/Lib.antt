@@ -2,6 +2,7 @@ pub mod Bodies
 pub mod Plan
 pub mod Correspondence
 pub mod Sources
+pub mod Whole
 pub mod RuleCode
 pub mod PreValues
 pub mod Extents

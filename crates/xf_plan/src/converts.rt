@@ -1,7 +1,7 @@
 //! Which types of two versions correspond, and which convert by default.
 
-ghost use Rattle.std.specs.Prelude.{◌≡◌, ◌<◌, length};
-ghost use Rattle.xf_plan.specs.Correspondence.{converts, corresponds, scalar_converts};
+ghost use Rattle.std.specs.Prelude.{◌≡◌, ◌<◌, length, position};
+ghost use Rattle.xf_plan.specs.Correspondence.{converts, corresponds, new_type, scalar_converts, types_correspond};
 ghost use Rattle.xf_plan.specs.Plain.{plan_of};
 ghost use Rattle.xf_plan.specs.Plan.{is_pair};
 
@@ -51,6 +51,49 @@ impl RulePlan {
             }
         }
         false
+    }
+
+    /// The place of the new version's type to which the one at a place of the old version's table corresponds: none where there is
+    /// no such type.
+    pub fn new_type(&self, old: u32) -> Option<u32>
+        ensures { result ≡ new_type (plan_of self.now) old }
+    {
+        let t = self.old.get(old)?;
+        self.first_corresponding(t)
+    }
+
+    // The first place of a new type to which an old one corresponds.
+    fn first_corresponding(&self, t: Ty) -> Option<u32>
+        ensures { result ≡ position (types_correspond (plan_of self.now) t) self.now.new.types }
+    {
+        for place in 0..self.new.type_count() {
+            let u = self.new.get(place)?;
+            if self.types_correspond(t, u) {
+                return Some(place);
+            }
+        }
+        None
+    }
+
+    // Whether an old type corresponds to a new one.
+    fn types_correspond(&self, t: Ty, u: Ty) -> bool
+        ensures { result ≡ types_correspond (plan_of self.now) t u }
+    {
+        match t {
+            Ty::Char => matches!(u, Ty::Char),
+            Ty::Int => matches!(u, Ty::Int),
+            Ty::Long => matches!(u, Ty::Long),
+            Ty::Mutex => matches!(u, Ty::Mutex),
+            Ty::Struct(s) => match u {
+                Ty::Struct(r) => self.is_pair(s, r),
+                _ => false,
+            },
+            Ty::Ptr(a) => match u {
+                Ty::Ptr(b) => self.corresponds(a, b),
+                _ => false,
+            },
+            Ty::Array(_, _) => false,
+        }
     }
 
     // An integer to the same or a wider one, a mutex to a mutex, a pointer to the corresponding one.
@@ -110,7 +153,7 @@ impl RulePlan {
     }
 
     // Whether a struct of the old version corresponds to one of the new.
-    pub(crate) fn is_pair(&self, s: u32, r: u32) -> bool
+    fn is_pair(&self, s: u32, r: u32) -> bool
         ensures { result ≡ is_pair self.now.structs s r }
     {
         self.structs

@@ -7,7 +7,6 @@
 mod body;
 mod converts;
 mod laws;
-mod new_type;
 mod place;
 mod plan;
 mod value;

@@ -1,0 +1,15 @@
+pub mod Branches
+pub mod Evaluation
+pub mod FieldSteps
+pub mod Forms
+pub mod Running
+pub mod Elements
+pub mod Rules
+pub mod Structs
+pub mod Sizes
+pub mod Descent
+pub mod Asking
+pub mod NumberedOperations
+pub mod GivenOperations
+pub mod Numbered
+pub mod NumberedCells

@@ -1,0 +1,6 @@
+pub mod Steps
+pub mod Operands
+pub mod Readings
+pub mod Asked
+pub mod Parts
+pub mod ByNumber
