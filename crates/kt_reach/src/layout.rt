@@ -1,13 +1,16 @@
 //! The cells of a new thing, from its type.
-ghost use Rattle.std.specs.Prelude.{◌≡◌, ◌+◌, ◌≤◌, ℕ, suc, true, IfOk, map, length};
+ghost use Rattle.std.specs.Prelude.{◌≡◌, ◌+◌, ◌≤◌, ℕ, suc, true, IfOk, map, length, slice_get};
 ghost use Rattle.kt_types.specs.Table.{Table};
-ghost use Rattle.xf_plan.specs.Extents.{new_cells};
+ghost use Rattle.xf_plan.specs.Extents.{new_cells, plain_extent};
 ghost use Rattle.kt_reach.specs.Cells.{AreWithinStart, cell_of, extent_of, laid_cells, parts_cells};
 
 use crate::cell::{Extent, NewCell, Part};
 use crate::parts::expand_part;
-use kt_types::TypeTable;
+use kt_types::{Ty, TypeTable};
 use std::alloc::{AllocError, Global};
+
+/// The place of `char` in a table of types.
+const CHAR: u32 = 0;
 
 /// The cells of a thing of the type at a place; `own` is the extent of its pointers, where it has no fields.
 pub(crate) fn new_cells(
@@ -79,4 +82,15 @@ fn cells_among(alloc: Global, parts: &[Part]) -> Result<Vec<NewCell>, AllocError
         }
     }
     Ok(cells)
+}
+
+/// The extent of the pointers of a heap object, which no declaration names: a plain `char *` points to a whole object, any other
+/// one to one element.
+pub(crate) fn plain_extent(types: &TypeTable, place: u32) -> Extent
+    ensures { extent_of result ≡ plain_extent (slice_get types.now.types place) }
+{
+    match types.get(place) {
+        Some(Ty::Ptr(pointee)) if pointee == CHAR => Extent::Whole,
+        _ => Extent::Elements(1),
+    }
 }
