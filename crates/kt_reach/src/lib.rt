@@ -11,6 +11,7 @@ mod judge;
 mod layout;
 mod lead;
 mod search;
+mod sizes;
 mod spot;
 mod names;
 mod order;
@@ -21,6 +22,7 @@ mod spots;
 mod told;
 mod visit;
 mod walk;
+mod wanted;
 
 pub use reaching::reach;
 pub use reached::{Addresses, Faults, FreshPlaces, Reached};
