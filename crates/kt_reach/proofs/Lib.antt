@@ -7,3 +7,4 @@ pub mod Leads
 pub mod Orders
 pub mod Named
 pub mod Laid
+pub mod Sums

@@ -4,3 +4,4 @@ pub mod Walk
 pub mod Cells
 pub mod Spots
 pub mod Told
+pub mod Sizes
