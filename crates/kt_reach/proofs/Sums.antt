@@ -1,11 +1,15 @@
 -- Sizes, added up.
-use Rattle.std.proofs.Common.{◌≡◌, ◌⊎◌, ℕ, ◌+◌, ◌<◌, ◌≤◌, Bool, true, false, ◌||◌, nat_lt, List, [], ◌∷◌, ◌++◌, map, sum, take, drop, get_or, length, refl, sym, ◌∙◌, ap, subst, inl, inr, arith}
+use Rattle.std.proofs.Common.{◌≡◌, ◌⊎◌, ℕ, ◌+◌, ◌*◌, not, ◌<◌, ◌≤◌, Bool, true, false, ◌||◌, nat_lt, List, [], ◌∷◌, ◌++◌, map, sum, take, drop, get_or, length, refl, sym, ◌∙◌, ap, subst, inl, inr, arith}
 use Rattle.std.specs.List.{list_any, sum_by}
-use Rattle.std.proofs.lemmas.Bool.{le-ltb, lt-ltb, or_left, or_parts, or_right}
+use Rattle.std.proofs.lemmas.Bool.{le-ltb, lt-ltb, ltb-true, or_cases, or_left, or_parts, or_right}
 use Rattle.std.proofs.lemmas.List.{append_assoc, append-nil, map-append, take-append-drop, drop_more, take_all, take_more}
 use Rattle.std.proofs.lemmas.List.Sums.{sum_by-append, sum_by-cons, sum_by_push}
-use Rattle.xf_plan.specs.Images.{is_too_big}
-use Rattle.kt_reach.specs.Sizes.{SumsTo}
+use Rattle.xf_plan.specs.Images.{FreshPlace, is_too_big}
+use Rattle.xf_plan.specs.Plan.{Plan}
+use Rattle.xf_plan.specs.Sources.{width}
+use Rattle.xf_plan.specs.declared.place.Place.{Place}
+use Rattle.kt_reach.specs.Answer.{fresh_place}
+use Rattle.kt_reach.specs.Sizes.{SumsTo, fresh_size}
 
 any-append : (p : ℕ → Bool) (xs ys : List ℕ) → list_any p xs ≡ false → list_any p (xs ++ ys) ≡ list_any p ys
 any-append p [] ys h = refl
@@ -57,3 +61,32 @@ module _ {X : Type 0} (f : X → ℕ) (xs : List X) (sizes : List ℕ) (i : ℕ)
 
 pub all-sizes : {X : Type 0} (f : X → ℕ) (xs : List X) (sizes : List ℕ) (i total : ℕ) → length xs ≤ i → SumsTo (sizes ++ map f (take i xs)) total → SumsTo (sizes ++ map f xs) total
 all-sizes f xs sizes i total high sums = subst (λ ys. SumsTo (sizes ++ map f ys) total) (take_all i xs high) sums
+
+-- ---- whether they are too big
+
+pub none-yet : SumsTo [] 0
+none-yet = record { each = refl; is = refl; most = omega arith }
+
+pub not-too-big : (sizes : List ℕ) (total : ℕ) → SumsTo sizes total → true ≡ not (is_too_big sizes)
+not-too-big sizes total sums =
+    let few : nat_lt 4194304 (sum sizes) ≡ false = le-ltb 4194304 (sum sizes) (omega (arith, sums.is, sums.most)) in
+    sym (ap not (ap (λ b. b || nat_lt 4194304 (sum sizes)) sums.each ∙ few))
+
+any-left : (p : ℕ → Bool) (xs ys : List ℕ) → list_any p xs ≡ true → list_any p (xs ++ ys) ≡ true
+any-left p [] ys h = absurd cc
+any-left p (x ∷ xs) ys h =
+    elim (or_cases (p x) (list_any p xs) h) [ inl l ↦ or_left (p x) (list_any p (xs ++ ys)) l | inr r ↦ or_right (p x) (list_any p (xs ++ ys)) (any-left p xs ys r) ]
+
+pub still-too-big : (xs ys : List ℕ) → is_too_big xs ≡ true → is_too_big (xs ++ ys) ≡ true
+still-too-big xs ys h =
+    elim (or_cases (list_any (nat_lt 65536) xs) (nat_lt 4194304 (sum xs)) h) [
+      | inl l ↦ or_left (list_any (nat_lt 65536) (xs ++ ys)) (nat_lt 4194304 (sum (xs ++ ys))) (any-left (nat_lt 65536) xs ys l)
+      | inr r ↦
+          let many = ltb-true 4194304 (sum xs) r in
+          or_right (list_any (nat_lt 65536) (xs ++ ys)) (nat_lt 4194304 (sum (xs ++ ys))) (lt-ltb 4194304 (sum (xs ++ ys)) (omega (arith, many, sum_by-append (λ x. x) xs ys)))
+    ]
+
+-- fresh places of the code as those of the definition
+pub fresh-sizes : (p : Plan) (fresh : List (Place × ℕ × ℕ)) → map (λ (f : FreshPlace). f.count * width p.new f.ty) (map fresh_place fresh) ≡ map (fresh_size p) fresh
+fresh-sizes p [] = refl
+fresh-sizes p (x ∷ fresh) = ap (λ ns. fresh_size p x ∷ ns) (fresh-sizes p fresh)

@@ -6,6 +6,7 @@
 #![tactic(auto)]
 
 mod cell;
+mod fitting;
 mod found;
 mod judge;
 mod layout;
@@ -24,6 +25,7 @@ mod visit;
 mod walk;
 mod wanted;
 
+pub use fitting::fits;
 pub use reaching::reach;
 pub use reached::{Addresses, Faults, FreshPlaces, Reached};
 
