@@ -34,8 +34,7 @@ walk-begins p m f marked = record {
 -- ---- one level more
 
 module _ (p : Plan) (m : Memory) (from : ℕ) (old mid new : Found) (walks : Walks p m from old mid)
-  (finds : Finds p m (flat_map (heap_spots p m) (drop from mid.objects.items)) mid new) where
-
+    (finds : Finds p m (flat_map (heap_spots p m) (drop from mid.objects.items)) mid new) where
   abbrev level : List ℕ
   level = drop from mid.objects.items
 
@@ -43,7 +42,7 @@ module _ (p : Plan) (m : Memory) (from : ℕ) (old mid new : Found) (walks : Wal
   over : (a : ℕ) → Contains (take (length mid.objects.items) new.objects.items) a → Contains (take from mid.objects.items) a ⊎ Contains level a
   over a h =
       let front : take (length mid.objects.items) new.objects.items ≡ mid.objects.items =
-          ap (take (length mid.objects.items)) finds.longer.1 ∙ take_at mid.objects.items finds.longer.0 (length mid.objects.items) refl
+      ap (take (length mid.objects.items)) finds.longer.1 ∙ take_at mid.objects.items finds.longer.0 (length mid.objects.items) refl
       in
       let split : mid.objects.items ≡ take from mid.objects.items ++ level = sym (take-append-drop from mid.objects.items) in
       Contains-append_cases (take from mid.objects.items) level a (subst (λ xs. Contains xs a) (front ∙ split) h)
@@ -97,9 +96,8 @@ walk-ends p m from old new walks most =
 -- ---- what is reached
 
 module _ (p : Plan) (m : Memory) (roots : List Root) (old new : Found) (walks : WalksAll p m old new)
-  (begun : (n : Name) → is_among (targets p m (root_spots p m roots)) n ≡ true → IsFound old n)
-  (no-more : (n : Name) → IsFound old n → is_among (targets p m (root_spots p m roots)) n ≡ true) where
-
+    (begun : (n : Name) → is_among (targets p m (root_spots p m roots)) n ≡ true → IsFound old n)
+    (no-more : (n : Name) → IsFound old n → is_among (targets p m (root_spots p m roots)) n ≡ true) where
   all-closed : (a : ℕ) → Contains new.objects.items a → LeadsNowhereElse p m new a
   all-closed a h = walks.closed a (subst (λ xs. Contains xs a) (sym (take_all (length new.objects.items) new.objects.items (omega arith))) h)
 

@@ -26,12 +26,11 @@ cleared bits key below clear =
     goal
 
 module _ (m : Memory) (old new : Found) (a key : ℕ)
-  (objects : new.objects.items ≡ old.objects.items ++ a ∷ []) (literals : new.literals.items ≡ old.literals.items)
-  (seen : new.seen.items ≡ set old.seen.items key true) (clean : new.clean ≡ old.clean)
-  (is : key ≡ key_of a) (below : key < length old.seen.items)
-  (apart : (b : ℕ) → Contains old.objects.items b → key_of b ≡ key → b ≡ a)
-  (unseen : is_seen old key ≡ false) (marked : IsMarked m old) (lives : IsSome (m.at (Heap a))) where
-
+    (objects : new.objects.items ≡ old.objects.items ++ a ∷ []) (literals : new.literals.items ≡ old.literals.items)
+    (seen : new.seen.items ≡ set old.seen.items key true) (clean : new.clean ≡ old.clean)
+    (is : key ≡ key_of a) (below : key < length old.seen.items)
+    (apart : (b : ℕ) → Contains old.objects.items b → key_of b ≡ key → b ≡ a)
+    (unseen : is_seen old key ≡ false) (marked : IsMarked m old) (lives : IsSome (m.at (Heap a))) where
   before : (b : ℕ) → Contains new.objects.items b → Contains old.objects.items b ⊎ (a ≡ b)
   before b h = Contains-push_cases old.objects.items a b (subst (λ xs. Contains xs b) objects h)
 

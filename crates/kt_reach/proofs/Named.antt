@@ -34,8 +34,7 @@ addresses-are names objects literals e =
 -- ---- names that were found
 
 module _ (f : Found) (objects : List ℕ) (literals : List (ℕ × ℕ)) (same-objects : (a : ℕ) → Contains f.objects.items a ↔ Contains objects a)
-  (same-literals : (x : ℕ × ℕ) → Contains f.literals.items x ↔ Contains literals x) where
-
+    (same-literals : (x : ℕ × ℕ) → Contains f.literals.items x ↔ Contains literals x) where
   abbrev names : List Name
   names = map Heap objects ++ map literal_name literals
 

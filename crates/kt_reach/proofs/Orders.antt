@@ -89,9 +89,8 @@ one-number pairs m pairing a b la lb same =
     paired a h = by a (m.at (Heap a)) refl h
 
 module _ (given : List (ℕ × ℕ)) (m : Memory) (pairing : IsPairing given m) (objects : List ℕ) (live : All (λ a. IsSome (m.at (Heap a))) objects) (pairs : List (ℕ × ℕ))
-  (keeps : (x : ℕ × ℕ) → Contains (map (λ a. (number m a, a)) objects) x → Contains pairs x)
-  (adds_none : (x : ℕ × ℕ) → Contains pairs x → Contains (map (λ a. (number m a, a)) objects) x) where
-
+    (keeps : (x : ℕ × ℕ) → Contains (map (λ a. (number m a, a)) objects) x → Contains pairs x)
+    (adds_none : (x : ℕ × ℕ) → Contains pairs x → Contains (map (λ a. (number m a, a)) objects) x) where
   abbrev with_number : ℕ → ℕ × ℕ
   with_number a = (number m a, a)
 
@@ -106,9 +105,10 @@ module _ (given : List (ℕ × ℕ)) (m : Memory) (pairing : IsPairing given m) 
       (subst (λ a. Contains objects a) address from.1, ap (number m) (sym address) ∙ ap (λ (y : ℕ × ℕ). y.0) from.2)
 
   pub same-objects : (a : ℕ) → Contains objects a ↔ Contains (map second pairs) a
-  same-objects a =
-      (λ h. contains-mapped second pairs (with_number a) (keeps (with_number a) (contains-mapped with_number objects a h)),
-       λ h. let from = from-mapped second pairs (0, 0) a h in subst (λ b. Contains objects b) from.2 (own from.0 from.1).0)
+  same-objects a = (
+    λ h. contains-mapped second pairs (with_number a) (keeps (with_number a) (contains-mapped with_number objects a h)),
+    λ h. let from = from-mapped second pairs (0, 0) a h in subst (λ b. Contains objects b) from.2 (own from.0 from.1).0,
+  )
 
   below : (x y : ℕ × ℕ) → Contains pairs x → Contains pairs y → IsEarlier x y → number m x.1 < number m y.1
   below x y hx hy earlier =

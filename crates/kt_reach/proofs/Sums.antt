@@ -33,7 +33,7 @@ module _ (sizes : List ℕ) (total size : ℕ) (sums : SumsTo sizes total) where
   pub too-many : 4194304 < total + size → (more : List ℕ) → is_too_big (sizes ++ size ∷ more) ≡ true
   too-many big more =
       let all : sum (sizes ++ size ∷ more) ≡ sum sizes + (size + sum more) =
-          sum_by-append (λ x. x) sizes (size ∷ more) ∙ ap (λ s. sum sizes + s) (sum_by-cons (λ x. x) size more)
+      sum_by-append (λ x. x) sizes (size ∷ more) ∙ ap (λ s. sum sizes + s) (sum_by-cons (λ x. x) size more)
       in
       or_right (list_any (nat_lt 65536) (sizes ++ size ∷ more)) (nat_lt 4194304 (sum (sizes ++ size ∷ more))) (lt-ltb 4194304 (sum (sizes ++ size ∷ more)) (omega (arith, all, sums.is, big)))
 
@@ -48,7 +48,7 @@ module _ {X : Type 0} (f : X → ℕ) (xs : List X) (sizes : List ℕ) (i : ℕ)
   sizes-split =
       append_assoc sizes (map f (take i xs)) (f (get_or xs i d) ∷ map f (drop (i + 1) xs))
       ∙ ap (λ ys. sizes ++ ys)
-        (sym (map-append f (take i xs) (get_or xs i d ∷ drop (i + 1) xs)) ∙ ap (λ ys. map f (take i xs ++ ys)) (sym (drop_more xs i d low)) ∙ ap (map f) (take-append-drop i xs))
+      (sym (map-append f (take i xs) (get_or xs i d ∷ drop (i + 1) xs)) ∙ ap (λ ys. map f (take i xs ++ ys)) (sym (drop_more xs i d low)) ∙ ap (map f) (take-append-drop i xs))
 
   pub one-size-more : (s more : ℕ) → s ≡ f (get_or xs i d) → SumsTo ((sizes ++ map f (take i xs)) ++ s ∷ []) more → SumsTo (sizes ++ map f (take (i + 1) xs)) more
   one-size-more s more is sums =

@@ -28,11 +28,7 @@ pub(crate) fn new_cells(
 }
 
 // Parts, laid out type by type until each is a cell.
-fn lay_out(
-    alloc: Global,
-    types: &TypeTable,
-    first: Vec<Part>,
-) -> Result<Vec<Part>, AllocError>
+fn lay_out(alloc: Global, types: &TypeTable, first: Vec<Part>) -> Result<Vec<Part>, AllocError>
     requires { AreWithinStart 0 first.items }
     ensures { IfOk result (λ v. laid_cells v.items ≡ parts_cells types.now (length types.now.types) first.items) }
 {

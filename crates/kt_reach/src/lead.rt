@@ -58,12 +58,7 @@ fn lead(heap: &Heap, name: Name, found: &mut Found) -> Result<(), AllocError>
 }
 
 // Adds a literal, where there is such.
-fn lead_literal(
-    heap: &Heap,
-    version: u8,
-    number: u32,
-    found: &mut Found,
-) -> Result<(), AllocError>
+fn lead_literal(heap: &Heap, version: u8, number: u32, found: &mut Found) -> Result<(), AllocError>
     requires { IsMarked (memory heap.now) found.old }
     ensures { OnOk result (AddsAll (memory heap.now) (if_live (name.Lit version number) ((memory heap.now).at (name.Lit version number))) found.old found.new) }
 {

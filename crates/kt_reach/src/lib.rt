@@ -11,14 +11,14 @@ mod found;
 mod judge;
 mod layout;
 mod lead;
-mod search;
-mod sizes;
-mod spot;
 mod names;
 mod order;
 mod parts;
-mod reaching;
 mod reached;
+mod reaching;
+mod search;
+mod sizes;
+mod spot;
 mod spots;
 mod told;
 mod visit;
@@ -26,6 +26,5 @@ mod walk;
 mod wanted;
 
 pub use fitting::fits;
-pub use reaching::reach;
 pub use reached::{Addresses, Faults, FreshPlaces, Reached};
-
+pub use reaching::reach;

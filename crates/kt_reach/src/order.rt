@@ -9,11 +9,7 @@ use kt_heap::Heap;
 use std::alloc::{AllocError, Global};
 
 /// The heap objects at these addresses, by heap number, each once.
-pub(crate) fn by_number(
-    alloc: Global,
-    heap: &Heap,
-    objects: &[u64],
-) -> Result<Vec<u64>, AllocError>
+pub(crate) fn by_number(alloc: Global, heap: &Heap, objects: &[u64]) -> Result<Vec<u64>, AllocError>
     requires { All (λ a. IsSome ((memory heap.now).at (name.Heap a))) objects.now }
     ensures order { IfOk result (λ v. AllPairs (λ a b. number (memory heap.now) a < number (memory heap.now) b) v.items) }
     ensures same { IfOk result (λ v. (a : ℕ) → Contains objects.now a ↔ Contains v.items a) }
@@ -34,11 +30,7 @@ pub(crate) fn by_version(literals: &mut Vec<(u8, u32)>)
 }
 
 // Each heap object with its heap number before it.
-fn numbered(
-    alloc: Global,
-    heap: &Heap,
-    objects: &[u64],
-) -> Result<Vec<(u64, u64)>, AllocError>
+fn numbered(alloc: Global, heap: &Heap, objects: &[u64]) -> Result<Vec<(u64, u64)>, AllocError>
     requires { All (λ a. IsSome ((memory heap.now).at (name.Heap a))) objects.now }
     ensures { IfOk result (λ v. v.items ≡ map (λ a. (number (memory heap.now) a, a)) objects.now) }
 {

@@ -61,12 +61,7 @@ fn with_size(total: u64, size: u64) -> Option<u64>
 }
 
 /// A total and the sizes of the images of these objects, where none is too big.
-pub(crate) fn with_names(
-    plan: &RulePlan,
-    heap: &Heap,
-    total: u64,
-    names: &[Name],
-) -> Option<u64>
+pub(crate) fn with_names(plan: &RulePlan, heap: &Heap, total: u64, names: &[Name]) -> Option<u64>
     requires { total ≤ 4194304 }
     ensures sizes { (sizes : List ℕ) → SumsTo sizes total → MatchOption result (is_too_big (sizes ++ map (name_size (plan_of plan.now) (memory heap.now)) names.now) ≡ true) (SumsTo (sizes ++ map (name_size (plan_of plan.now) (memory heap.now)) names.now)) }
     ensures most { IfSome result (λ t. t ≤ 4194304) }
@@ -82,11 +77,7 @@ pub(crate) fn with_names(
 }
 
 /// A total and the sizes of fresh objects, where none is too big.
-pub(crate) fn with_fresh(
-    plan: &RulePlan,
-    total: u64,
-    fresh: &[(Place, u32, u32)],
-) -> Option<u64>
+pub(crate) fn with_fresh(plan: &RulePlan, total: u64, fresh: &[(Place, u32, u32)]) -> Option<u64>
     requires { total ≤ 4194304 }
     ensures { (sizes : List ℕ) → SumsTo sizes total → MatchOption result (is_too_big (sizes ++ map (fresh_size (plan_of plan.now)) fresh.now) ≡ true) (SumsTo (sizes ++ map (fresh_size (plan_of plan.now)) fresh.now)) }
 {

@@ -1,7 +1,7 @@
-use Rattle.std.proofs.Common.{◌≡◌, ◌∙◌, ◌++◌, ◌*◌, ℕ, List, [], Bool, false, true, not, map, ap, sym, subst}
+use Rattle.std.proofs.Common.{◌≡◌, ◌∙◌, ◌++◌, ◌*◌, ℕ, List, [], true, not, map, ap, sym, subst}
 use Rattle.kt_mem.specs.declared.memory.Name.{Name}
 use Rattle.kt_heap.specs.Heap.{memory}
-use Rattle.xf_plan.specs.Images.{is_too_big, sizes}
+use Rattle.xf_plan.specs.Images.{is_too_big}
 use Rattle.xf_plan.specs.Plain.{plan_of}
 use Rattle.xf_plan.specs.Sources.{width}
 use Rattle.xf_plan.specs.declared.place.Place.{Place}
@@ -26,7 +26,7 @@ returns-in_default-with_fresh c =
     let names = map (name_size p m) c.args.reached.now.objects in
     let sums : SumsTo names c.in-Some.total = subst (λ (xs : List Name). SumsTo (map (name_size p m) xs) c.in-Some.total) c.as_slice.ensures (c.in-Some.ensures.sizes [] none-yet) in
     let big : is_too_big (names ++ map (fresh_size p) c.args.reached.now.fresh) ≡ true =
-        subst (λ (xs : List (Place × ℕ × ℕ)). is_too_big (names ++ map (fresh_size p) xs) ≡ true) c.as_slice-2.ensures (c.in_default-with_fresh.ensures names sums)
+    subst (λ (xs : List (Place × ℕ × ℕ)). is_too_big (names ++ map (fresh_size p) xs) ≡ true) c.as_slice-2.ensures (c.in_default-with_fresh.ensures names sums)
     in
     sym (ap (λ (xs : List ℕ). not (is_too_big (names ++ xs))) (fresh-sizes p c.args.reached.now.fresh) ∙ ap not big)
 
@@ -37,7 +37,7 @@ returns c =
     let names = map (name_size p m) c.args.reached.now.objects in
     let sums : SumsTo names c.in-Some.total = subst (λ (xs : List Name). SumsTo (map (name_size p m) xs) c.in-Some.total) c.as_slice.ensures (c.in-Some.ensures.sizes [] none-yet) in
     let all : SumsTo (names ++ map (fresh_size p) c.args.reached.now.fresh) c.in-Some-with_fresh.field-0 =
-        subst (λ (xs : List (Place × ℕ × ℕ)). SumsTo (names ++ map (fresh_size p) xs) c.in-Some-with_fresh.field-0) c.as_slice-2.ensures (c.in-Some-with_fresh.ensures names sums)
+    subst (λ (xs : List (Place × ℕ × ℕ)). SumsTo (names ++ map (fresh_size p) xs) c.in-Some-with_fresh.field-0) c.as_slice-2.ensures (c.in-Some-with_fresh.ensures names sums)
     in
     not-too-big (names ++ map (fresh_size p) c.args.reached.now.fresh) c.in-Some-with_fresh.field-0 all
     ∙ ap (λ (xs : List ℕ). not (is_too_big (names ++ xs))) (sym (fresh-sizes p c.args.reached.now.fresh))

@@ -1,8 +1,7 @@
-use Rattle.std.proofs.Common.{◌≡◌, ◌∙◌, ◌<◌, Bool, true, List, None, Some, length, map, slice_get, sym, ap, subst, arith}
+use Rattle.std.proofs.Common.{◌≡◌, ◌∙◌, List, None, Some, map, slice_get, sym, subst, arith}
 use Rattle.std.specs.List.{position}
 use Rattle.std.specs.Option.{option_and_then}
 use Rattle.xf_plan.specs.Plain.{global_rule_of}
-use Rattle.xf_plan.specs.Plan.{GlobalRule}
 use Rattle.xf_plan.specs.Spots.{comes_from}
 use Rattle.xf_plan.specs.declared.plan.GlobalRule as code
 use Rattle.kt_reach.proofs.Becomes.{found-first, none-yet, none-found}

@@ -1,4 +1,4 @@
-use Rattle.std.proofs.Common.{◌≡◌, ◌∙◌, ◌≤◌, length, ap, sym, take, arith}
+use Rattle.std.proofs.Common.{◌≡◌, ◌∙◌, ap, sym, take, arith}
 use Rattle.std.proofs.lemmas.List.{take_all}
 use Rattle.kt_reach.specs.Cells.{laid_cells, parts_cells}
 use Rattle.kt_reach.proofs.Laid.{cell-more}

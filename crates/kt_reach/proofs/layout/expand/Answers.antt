@@ -1,4 +1,4 @@
-use Rattle.std.proofs.Common.{◌≡◌, ◌∙◌, ◌+◌, ◌≤◌, suc, length, ap, sym, take, get_or, arith}
+use Rattle.std.proofs.Common.{◌≡◌, ◌∙◌, suc, ap, take, arith}
 use Rattle.std.proofs.lemmas.List.{take_all}
 use Rattle.std.proofs.lemmas.List.Elements.{All-get_or}
 use Rattle.kt_reach.specs.Cells.{IsWithinStart, parts_cells}

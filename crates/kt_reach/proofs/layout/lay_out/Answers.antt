@@ -1,4 +1,4 @@
-use Rattle.std.proofs.Common.{◌≡◌, ◌∙◌, ◌+◌, ◌*◌, ◌-◌, ◌<◌, ◌≤◌, List, suc, length, ap, sym, subst, arith}
+use Rattle.std.proofs.Common.{◌≡◌, ◌∙◌, ◌+◌, ◌*◌, ◌-◌, ◌<◌, List, suc, length, ap, sym, subst, arith}
 use Rattle.kt_reach.specs.declared.cell.Part.{Part}
 use Rattle.kt_reach.specs.Cells.{AreWithinStart, laid_cells, parts_cells}
 use Rattle.kt_reach.proofs.Laid.{one-left, wider}
@@ -9,7 +9,7 @@ returns-then-are_cells c =
     let t = c.args.types.now in
     let left = length t.types - c.loop.counter in
     let same : laid_cells c.loop.parts.items ≡ parts_cells t left c.loop.parts.items =
-        sym (subst (λ (xs : List Part). parts_cells t left xs ≡ laid_cells xs) c.deref.ensures.value (c.are_cells.ensures c.if-are_cells.true t left))
+    sym (subst (λ (xs : List Part). parts_cells t left xs ≡ laid_cells xs) c.deref.ensures.value (c.are_cells.ensures c.if-are_cells.true t left))
     in
     same ∙ c.loop.invariant.cells
 

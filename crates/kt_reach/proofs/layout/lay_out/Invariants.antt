@@ -1,4 +1,4 @@
-use Rattle.std.proofs.Common.{◌≡◌, ◌-◌, ◌*◌, ℕ, length}
+use Rattle.std.proofs.Common.{◌≡◌, ◌-◌, ◌*◌, length}
 use Rattle.kt_reach.specs.Cells.{AreWithinStart, parts_cells}
 use Rattle.kt_reach.proofs.layout.lay_out.Given as goal
 

@@ -1,6 +1,5 @@
-use Rattle.std.proofs.Common.{◌≡◌, ◌∙◌, ◌+◌, ◌*◌, ◌-◌, ◌++◌, ℕ, suc, ap, sym, subst, arith}
+use Rattle.std.proofs.Common.{◌≡◌, ◌∙◌, ◌+◌, ◌*◌, ◌-◌, ◌++◌, suc, ap, sym}
 use Rattle.std.proofs.lemmas.List.{append-nil}
-use Rattle.kt_types.specs.Table.{Table}
 use Rattle.xf_plan.specs.Extents.{cells_within, element_cells}
 use Rattle.kt_reach.specs.declared.cell.Part.TheVariants.{Inner}
 use Rattle.kt_reach.specs.Cells.{extent_of, parts_cells}

@@ -1,4 +1,4 @@
-use Rattle.std.proofs.Common.{◌≡◌, ◌∙◌, ◌+◌, ◌<◌, ◌++◌, drop, length, ap, sym, arith}
+use Rattle.std.proofs.Common.{◌≡◌, ◌∙◌, ◌+◌, ◌<◌, ◌++◌, drop, length, ap, arith}
 use Rattle.xf_plan.specs.Extents.{cells_within, field_cells}
 use Rattle.xf_plan.specs.Sources.{width}
 use Rattle.kt_reach.specs.declared.cell.Part.TheVariants.{Inner}

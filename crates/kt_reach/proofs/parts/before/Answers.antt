@@ -1,4 +1,4 @@
-use Rattle.std.proofs.Common.{◌≡◌, ◌∙◌, ◌+◌, ◌<◌, length, ap, sym, arith}
+use Rattle.std.proofs.Common.{◌≡◌, ◌∙◌, ◌<◌, length, ap, sym, arith}
 use Rattle.kt_types.specs.Layout.{cells_before}
 use Rattle.kt_reach.proofs.Laid.{before-end, before-most, one-field-more}
 use Rattle.kt_reach.proofs.parts.before.Goals as goal

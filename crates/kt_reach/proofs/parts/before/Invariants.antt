@@ -1,4 +1,4 @@
-use Rattle.std.proofs.Common.{◌≡◌, ◌+◌, ◌≤◌, ℕ}
+use Rattle.std.proofs.Common.{◌≡◌, ◌+◌}
 use Rattle.kt_types.specs.Layout.{cells_before}
 use Rattle.kt_reach.proofs.parts.before.Given as goal
 

@@ -1,4 +1,4 @@
-use Rattle.std.proofs.Common.{◌≡◌, ◌+◌, ◌++◌, List, Option, Some, OnOk, sym, subst, arith}
+use Rattle.std.proofs.Common.{◌≡◌, ◌+◌, ◌++◌, List, Option, OnOk, sym, subst, arith}
 use Rattle.kt_types.specs.declared.kinds.FieldDecl.{FieldDecl}
 use Rattle.xf_plan.specs.Extents.{cells_within, struct_cells}
 use Rattle.kt_reach.specs.Cells.{parts_cells}

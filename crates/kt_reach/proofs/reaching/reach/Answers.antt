@@ -32,8 +32,8 @@ returns-clause-objects c =
     let literals = c.by_version.new.literals.items in
     let same_objects = λ (a : ℕ). subst (λ (xs : List ℕ). Contains xs a ↔ Contains objects a) c.deref-2.ensures.value (c.in_ok-objects.ensures.same a) in
     let parts : c.in_ok-named.named ≡ map Heap objects ++ map literal_name literals =
-        c.in_ok-named.ensures ∙ ap (λ (xs : List ℕ). map Heap xs ++ map literal_name c.deref-6.result.now) c.deref-5.ensures.value
-        ∙ ap (λ (xs : List (ℕ × ℕ)). map Heap objects ++ map literal_name xs) c.deref-6.ensures.value
+    c.in_ok-named.ensures ∙ ap (λ (xs : List ℕ). map Heap xs ++ map literal_name c.deref-6.result.now) c.deref-5.ensures.value
+    ∙ ap (λ (xs : List (ℕ × ℕ)). map Heap objects ++ map literal_name xs) c.deref-6.ensures.value
     in
     are-reached c.in_ok-found.found objects literals same_objects c.by_version.ensures.same p m roots c.in_ok-named.named parts finds c.in_ok-objects.ensures.order c.by_version.ensures.order
 
@@ -46,12 +46,12 @@ returns-clause-faults c =
     let literals = c.by_version.new.literals.items in
     let are : spots_of c.deref-3.result.now ≡ root_spots p m roots = ap spots_of c.deref-3.ensures.value ∙ c.in_ok-begun.ensures in
     let parts : c.in_ok-named.named ≡ map Heap objects ++ map literal_name literals =
-        c.in_ok-named.ensures ∙ ap (λ (xs : List ℕ). map Heap xs ++ map literal_name c.deref-6.result.now) c.deref-5.ensures.value
-        ∙ ap (λ (xs : List (ℕ × ℕ)). map Heap objects ++ map literal_name xs) c.deref-6.ensures.value
+    c.in_ok-named.ensures ∙ ap (λ (xs : List ℕ). map Heap xs ++ map literal_name c.deref-6.result.now) c.deref-5.ensures.value
+    ∙ ap (λ (xs : List (ℕ × ℕ)). map Heap objects ++ map literal_name xs) c.deref-6.ensures.value
     in
     let same : c.deref-4.result.now ≡ addresses c.in_ok-named.named = c.deref-4.ensures.value ∙ sym (addresses-are c.in_ok-named.named objects literals parts) in
     let over : spots_of c.deref-3.result.now ++ flat_map (heap_spots p m) c.deref-4.result.now ≡ spots_over p m roots c.in_ok-named.named =
-        ap (λ (xs : List Spot). xs ++ flat_map (heap_spots p m) c.deref-4.result.now) are ∙ ap (λ (xs : List ℕ). root_spots p m roots ++ flat_map (heap_spots p m) xs) same
+    ap (λ (xs : List Spot). xs ++ flat_map (heap_spots p m) c.deref-4.result.now) are ∙ ap (λ (xs : List ℕ). root_spots p m roots ++ flat_map (heap_spots p m) xs) same
     in
     c.in_ok-told.ensures.faults ∙ ap (faults_in p m) over
 
@@ -64,11 +64,11 @@ returns-clause-fresh c =
     let literals = c.by_version.new.literals.items in
     let are : spots_of c.deref-3.result.now ≡ root_spots p m roots = ap spots_of c.deref-3.ensures.value ∙ c.in_ok-begun.ensures in
     let parts : c.in_ok-named.named ≡ map Heap objects ++ map literal_name literals =
-        c.in_ok-named.ensures ∙ ap (λ (xs : List ℕ). map Heap xs ++ map literal_name c.deref-6.result.now) c.deref-5.ensures.value
-        ∙ ap (λ (xs : List (ℕ × ℕ)). map Heap objects ++ map literal_name xs) c.deref-6.ensures.value
+    c.in_ok-named.ensures ∙ ap (λ (xs : List ℕ). map Heap xs ++ map literal_name c.deref-6.result.now) c.deref-5.ensures.value
+    ∙ ap (λ (xs : List (ℕ × ℕ)). map Heap objects ++ map literal_name xs) c.deref-6.ensures.value
     in
     let same : c.deref-4.result.now ≡ addresses c.in_ok-named.named = c.deref-4.ensures.value ∙ sym (addresses-are c.in_ok-named.named objects literals parts) in
     let over : spots_of c.deref-3.result.now ++ flat_map (heap_spots p m) c.deref-4.result.now ≡ spots_over p m roots c.in_ok-named.named =
-        ap (λ (xs : List Spot). xs ++ flat_map (heap_spots p m) c.deref-4.result.now) are ∙ ap (λ (xs : List ℕ). root_spots p m roots ++ flat_map (heap_spots p m) xs) same
+    ap (λ (xs : List Spot). xs ++ flat_map (heap_spots p m) c.deref-4.result.now) are ∙ ap (λ (xs : List ℕ). root_spots p m roots ++ flat_map (heap_spots p m) xs) same
     in
     c.in_ok-told.ensures.fresh ∙ ap fresh_of over

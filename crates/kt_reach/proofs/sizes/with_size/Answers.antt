@@ -1,5 +1,5 @@
 use Rattle.std.proofs.Common.{arith}
-use Rattle.kt_reach.proofs.Sums.{sums-more, too-long, too-many}
+use Rattle.kt_reach.proofs.Sums.{sums-more}
 use Rattle.kt_reach.proofs.sizes.with_size.Goals as goal
 
 pub returns-clause-sizes : goal.returns-clause-sizes

@@ -12,7 +12,7 @@ pub visit_level-requires-clause-live : goal.visit_level-requires-clause-live
 visit_level-requires-clause-live c =
     let xs = c.loop-from.found.objects.items in
     let is : c.deref-in-loop-from.result.now ≡ drop c.loop-from.from xs =
-        c.deref-in-loop-from.ensures.value ∙ c.in_ok-level.ensures.items ∙ take_rest c.deref.result.now c.loop-from.from ∙ ap (drop c.loop-from.from) c.deref.ensures.value
+    c.deref-in-loop-from.ensures.value ∙ c.in_ok-level.ensures.items ∙ take_rest c.deref.result.now c.loop-from.from ∙ ap (drop c.loop-from.from) c.deref.ensures.value
     in
     level-live (memory c.args.heap.now) c.loop-from.found c.loop-from.invariant.marked c.loop-from.from c.deref-in-loop-from.result.now is
 
@@ -22,7 +22,7 @@ loop-from-preserved c =
     let m = memory c.args.heap.now in
     let mid = c.loop-from.found in
     let is : c.deref-in-loop-from.result.now ≡ drop c.loop-from.from mid.objects.items =
-        c.deref-in-loop-from.ensures.value ∙ c.in_ok-level.ensures.items ∙ take_rest c.deref.result.now c.loop-from.from ∙ ap (drop c.loop-from.from) c.deref.ensures.value
+    c.deref-in-loop-from.ensures.value ∙ c.in_ok-level.ensures.items ∙ take_rest c.deref.result.now c.loop-from.from ∙ ap (drop c.loop-from.from) c.deref.ensures.value
     in
     let finds = subst (λ (xs : List ℕ). Finds p m (flat_map (heap_spots p m) xs) mid c.visit_level.new.found) is c.in_ok-visit_level.ensures in
     let goes = walk-goes p m c.loop-from.from c.args.found.now mid c.visit_level.new.found c.loop-from.invariant finds in
