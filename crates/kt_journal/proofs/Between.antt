@@ -20,7 +20,8 @@ use Rattle.kt_journal.specs.Journal as journal
 use Rattle.kt_journal.specs.Journal.{Entry, Turns, words_of}
 use Rattle.kt_journal.specs.Runs.{is_other, is_on_its_way, IsMainOnly}
 use Rattle.kt_journal.specs.Marks.{closed_words, end_words, mark_words, turn_of}
-use Rattle.kt_journal.specs.Written.{with_turn, with_turns, version_after, entries_from}
+use Rattle.kt_world.specs.Told.{version_after}
+use Rattle.kt_journal.specs.Written.{with_turn, with_turns, entries_from}
 
 -- ---- entries
 

@@ -1,11 +1,15 @@
 pub mod Between
 pub mod Clean
+pub mod Complete
 pub mod Entries
+pub mod Formed
+pub mod Identified
 pub mod Lines
 pub mod MainOnly
 pub mod Named
 pub mod Numbers
 pub mod Once
+pub mod ReadBack
 pub mod SoFar
 pub mod Spaced
 pub mod Splitting

@@ -26,7 +26,8 @@ use Rattle.kt_journal.specs.Journal.{Entry, Turns, words_of, kit_words, text_of,
 use Rattle.kt_journal.specs.Reading.{with_byte, split}
 use Rattle.kt_journal.specs.Runs.{lines_in}
 use Rattle.kt_journal.specs.Marks.{trap_name, place_words, why_name, trap_in, trap_words, closed_words, end_words, mark_words, turn_of}
-use Rattle.kt_journal.specs.Written.{with_turn, with_turns, version_after, entries_from}
+use Rattle.kt_world.specs.Told.{version_after}
+use Rattle.kt_journal.specs.Written.{with_turn, with_turns, entries_from}
 use Rattle.kt_journal.proofs.Named.{IsProgramIf, program-at, global-clean, function-clean, local-clean}
 use Rattle.kt_journal.proofs.Splitting.{has, IsClean, AreClean, IsSomeWords, or-parts, words-split, join-clean, line-whole}
 

@@ -25,7 +25,7 @@ at P Q none some [] all i = none
 at P Q none some (x ∷ xs) all zero = some x all.0
 at P Q none some (x ∷ xs) all (suc i) = at P Q none some xs all.1 i
 
-both : (xs ys : List (List ℕ)) → list_all tree.is_identifier (xs ++ ys) ≡ true → (list_all tree.is_identifier xs ≡ true) × (list_all tree.is_identifier ys ≡ true)
+pub both : (xs ys : List (List ℕ)) → list_all tree.is_identifier (xs ++ ys) ≡ true → (list_all tree.is_identifier xs ≡ true) × (list_all tree.is_identifier ys ≡ true)
 both [] ys all = (refl, all)
 both (x ∷ xs) ys all =
     let parts = and_parts (tree.is_identifier x) (list_all tree.is_identifier (xs ++ ys)) all in
@@ -36,7 +36,7 @@ both (x ∷ xs) ys all =
     joined true b h k = k
     joined false b h k = absurd (false≢true h)
 
-named : {A : Type 0} (name : A → List ℕ) (xs : List A) → list_all tree.is_identifier (map name xs) ≡ true → AllByRecursion (λ x. is_identifier (name x) ≡ true) xs
+pub named : {A : Type 0} (name : A → List ℕ) (xs : List A) → list_all tree.is_identifier (map name xs) ≡ true → AllByRecursion (λ x. is_identifier (name x) ≡ true) xs
 named name [] all = tt
 named name (x ∷ xs) all =
     let parts = and_parts (tree.is_identifier (name x)) (list_all tree.is_identifier (map name xs)) all in

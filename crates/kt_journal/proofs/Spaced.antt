@@ -1,5 +1,7 @@
 -- The line of a refused closing, word by word.
-use Rattle.std.proofs.Common.{◌≡◌, ℕ, List, [], ◌∷◌, ◌++◌, refl, ap, sym, ◌∙◌, append_assoc, codes}
+use Rattle.std.proofs.Common.{◌≡◌, ℕ, List, [], ◌∷◌, ◌++◌, refl, ap, sym, ◌∙◌, append_assoc, arith, codes}
+use Rattle.std.specs.Fmt.{decimal}
+use Rattle.std.proofs.lemmas.Fmt.{decimal_digit}
 use Rattle.kt_text.specs.Lines.{line_of}
 use Rattle.kt_text.proofs.Spaced.{spaced, line-spaced}
 use Rattle.kt_journal.specs.Grammar.{Words}
@@ -27,3 +29,28 @@ fault_line old close request refused why where_it_is cause new word_k word_n pla
     ∙ ap (λ l. l ++ 10 ∷ []) (append_assoc old (codes "close") (spaced (word_k ∷ (codes "refused" ∷ (word_n ∷ (place ++ causes))))))
     ∙ append_assoc old (codes "close" ++ spaced (word_k ∷ (codes "refused" ∷ (word_n ∷ (place ++ causes))))) (10 ∷ [])
     ∙ ap (λ l. old ++ l) (sym (line-spaced (codes "close") (word_k ∷ (codes "refused" ∷ (word_n ∷ (place ++ causes))))))
+
+-- the line of turns was appended part by part
+pub turn_line : (old begun told new thread count : List ℕ) → begun ≡ old ++ codes "turn " → told ≡ begun ++ thread → new ≡ told ++ 32 ∷ (count ++ 10 ∷ [])
+    → new ≡ old ++ line_of (codes "turn" ∷ (thread ∷ (count ∷ [])))
+unfolding line_of
+turn_line old begun told new thread count first second last =
+    last ∙ ap (λ l. l ++ 32 ∷ (count ++ 10 ∷ [])) (second ∙ ap (λ l. l ++ thread) first) ∙ regrouped old thread count
+  where
+    regrouped : (a b c : List ℕ) → ((a ++ codes "turn ") ++ b) ++ 32 ∷ (c ++ 10 ∷ []) ≡ a ++ ((codes "turn" ++ 32 ∷ (b ++ 32 ∷ c)) ++ 10 ∷ [])
+    regrouped a b c = simp append_assoc
+
+-- one turn
+pub one_turn : (old new : List ℕ) (count : ℕ) → count ≡ 1 → new ≡ old ++ codes " 1\n" → new ≡ old ++ 32 ∷ (decimal count ++ 10 ∷ [])
+one_turn old new count one pushed =
+    let digit : decimal count ≡ 49 ∷ [] = ap decimal one ∙ decimal_digit 1 (omega arith) in
+    pushed ∙ ap (λ l. old ++ 32 ∷ (l ++ 10 ∷ [])) (sym digit)
+
+-- so many
+pub some_turns : (old apart counted new count : List ℕ) → apart ≡ old ++ 32 ∷ [] → counted ≡ apart ++ count → new ≡ counted ++ 10 ∷ []
+    → new ≡ old ++ 32 ∷ (count ++ 10 ∷ [])
+some_turns old apart counted new count first second last =
+    last ∙ ap (λ l. l ++ 10 ∷ []) (second ∙ ap (λ l. l ++ count) first) ∙ regrouped old count
+  where
+    regrouped : (a b : List ℕ) → ((a ++ 32 ∷ []) ++ b) ++ 10 ∷ [] ≡ a ++ 32 ∷ (b ++ 10 ∷ [])
+    regrouped a b = simp append_assoc

@@ -11,7 +11,8 @@ use Rattle.kt_journal.specs.declared.kit.Kit.{Kit}
 use Rattle.kt_journal.specs.Grammar.{Words}
 use Rattle.kt_journal.specs.Journal.{Entry, Turns, Mark, words_of, text_of}
 use Rattle.kt_journal.specs.Marks.{mark_words, turn_of}
-use Rattle.kt_journal.specs.Written.{with_turn, with_turns, version_after, entries_from}
+use Rattle.kt_world.specs.Told.{version_after}
+use Rattle.kt_journal.specs.Written.{with_turn, with_turns, entries_from}
 
 -- the text of lines
 abbrev pub text_in : List Entry → List ℕ

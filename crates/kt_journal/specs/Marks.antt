@@ -1,5 +1,5 @@
 -- The words of the line of a mark.
-use Rattle.std.specs.Prelude.{ℕ, nat_lt, Bool, true, false, List, [], ◌∷◌, ◌++◌, codes, Option, None, Some, slice_get, if◌then◌else◌}
+use Rattle.std.specs.Prelude.{ℕ, nat_lt, Bool, false, List, [], ◌∷◌, ◌++◌, codes, Option, None, Some, slice_get, if◌then◌else◌}
 use Rattle.std.specs.Fmt.{decimal, signed_decimal}
 use Rattle.std.specs.List.{list_any}
 use Rattle.kt_types.specs.declared.kinds.FieldDecl.{FieldDecl}
@@ -141,11 +141,6 @@ turn_of (mark.Close turn k how) = turn
 turn_of (mark.MainThere turn k) = turn
 turn_of (mark.Back turn k) = turn
 turn_of (mark.End turn how) = turn
-
--- an update was made
-abbrev pub is_update : Mark → Bool
-is_update (mark.Close turn k (closed.Ok images)) = true
-is_update m = false
 
 -- a request woke a thread
 abbrev pub wakes : Mark → Bool

@@ -2,10 +2,11 @@
 use Rattle.std.specs.Prelude.{ℕ, suc, ◌+◌, ◌-◌, ◌==◌, List, [], ◌∷◌, take, drop, if◌then◌else◌}
 use Rattle.kt_world.specs.declared.mark.Mark.{Mark}
 use Rattle.kt_world.specs.Job.{Job, version_at}
+use Rattle.kt_world.specs.Told.{version_after}
 use Rattle.kt_journal.specs.declared.kit.Kit.{Kit}
 use Rattle.kt_journal.specs.Journal as journal
 use Rattle.kt_journal.specs.Journal.{Entry, Turns, front_of}
-use Rattle.kt_journal.specs.Marks.{mark_words, turn_of, is_update, kit_of}
+use Rattle.kt_journal.specs.Marks.{mark_words, turn_of, kit_of}
 
 -- ---- turns
 
@@ -21,10 +22,6 @@ with_turns [] entries = entries
 with_turns (t ∷ turns) entries = with_turn t (with_turns turns entries)
 
 -- ---- marks
-
--- the version in force behind a mark, where this one was before it
-abbrev pub version_after : Mark → ℕ → ℕ
-version_after m v = if is_update m then suc v else v
 
 -- the lines of these turns, before which so many were made while that version was in force, with the marks among them
 abbrev pub entries_from : Kit → Job → ℕ → ℕ → List ℕ → List Mark → List Entry

@@ -15,6 +15,6 @@ mod word;
 mod writer;
 
 pub use fault::JournalFault;
-pub use laws::main_only_law;
+pub use laws::{main_only_law, read_back_law};
 pub use reader::read;
 pub use writer::write;

@@ -5,6 +5,7 @@ ghost use Rattle.std.specs.Fmt.{decimal};
 ghost use Rattle.std.specs.List.{list_any};
 ghost use Rattle.std.specs.Option.{option_copied};
 ghost use Rattle.kt_text.specs.Lines.{line_of};
+ghost use Rattle.kt_world.specs.Told.{is_update};
 ghost use Rattle.kt_journal.specs.Marks as spec;
 
 use super::kit::Kit;
@@ -58,7 +59,7 @@ pub fn turn_of(mark: &Mark) -> u32
 
 /// Whether an update was made.
 pub fn is_update(mark: &Mark) -> bool
-    ensures { result ≡ spec.is_update mark.now }
+    ensures { result ≡ is_update mark.now }
 {
     match mark {
         Mark::Close {

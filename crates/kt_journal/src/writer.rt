@@ -6,6 +6,7 @@ ghost use Rattle.std.specs.Option.{option_copied};
 ghost use Rattle.kt_text.specs.Lines.{line_of};
 ghost use Rattle.kt_world.specs.Job.{version_at};
 ghost use Rattle.kt_world.specs.Plain.{job_of};
+ghost use Rattle.kt_world.specs.Told.{version_after};
 ghost use Rattle.kt_journal.specs.Journal.{text_of, words_of, kit_words};
 ghost use Rattle.kt_journal.specs.Marks as marks;
 ghost use Rattle.kt_journal.specs.Written as spec;
@@ -13,7 +14,6 @@ ghost use Rattle.kt_journal.specs.Written as spec;
 use super::kit::Kit;
 use super::mark::{is_update, kit_of, push_mark, turn_of};
 use itoa::Buffer;
-use kt_text::push_line;
 use kt_tree::Version;
 use kt_world::{Job, Mark};
 use std::alloc::{AllocError, Global};
@@ -61,7 +61,7 @@ fn version_at(job: &Job, version: usize) -> Option<&Version>
 // The number of the version in force behind a mark.
 fn version_after(mark: &Mark, version: usize) -> usize
     requires { version < 2 ^ 63 }
-    ensures version { result ≡ spec.version_after mark.now version }
+    ensures version { result ≡ version_after mark.now version }
     ensures within { result ≤ version + 1 }
 {
     if is_update(mark) {
@@ -99,16 +99,27 @@ fn push_stretch(text: &mut Vec<u8>, thread: u8, count: usize) -> Result<(), Allo
     push_row(text, thread, count)
 }
 
+#[tactic(auto, using(crate::proofs::Spaced::turn_line))]
 fn push_row(text: &mut Vec<u8>, thread: u8, count: usize) -> Result<(), AllocError>
     ensures { OnOk result (text.new.items ≡ text.old.items ++ line_of (codes "turn" ∷ decimal thread ∷ decimal count ∷ [])) }
 {
-    let (mut first, mut second) = (Buffer::new(), Buffer::new());
-    push_line(
-        text,
-        &[
-            b"turn",
-            first.format(thread).as_bytes(),
-            second.format(count).as_bytes(),
-        ],
-    )
+    let mut buffer = Buffer::new();
+    text.extend_from_slice(b"turn ")?;
+    text.extend_from_slice(buffer.format(thread).as_bytes())?;
+    push_count(text, count)
+}
+
+// A space, the number, and a newline. Where threads take turns at random, most lines tell of one turn.
+#[tactic(auto, using(crate::proofs::Spaced::one_turn, crate::proofs::Spaced::some_turns))]
+fn push_count(text: &mut Vec<u8>, count: usize) -> Result<(), AllocError>
+    ensures { OnOk result (text.new.items ≡ text.old.items ++ 32 ∷ (decimal count ++ 10 ∷ [])) }
+{
+    if count == 1 {
+        return text.extend_from_slice(b" 1\n");
+    }
+    let mut buffer = Buffer::new();
+    text.push(b' ')?;
+    text.extend_from_slice(buffer.format(count).as_bytes())?;
+    text.push(b'\n')?;
+    Ok(())
 }

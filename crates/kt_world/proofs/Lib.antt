@@ -6,4 +6,6 @@ pub mod Endings
 pub mod Marking
 pub mod Numbering
 pub mod Choosing
-pub mod Calming
+pub mod Places
+pub mod Taking
+pub mod Telling

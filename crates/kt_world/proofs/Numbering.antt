@@ -151,22 +151,22 @@ module _ {X : Type 0} (e : Engine X) (job : Job) where
   effect-few types w t th (Traps cause) h = h
   effect-few types w t th (Ends a) h = ends-few w t th a h
 
-  act-few : (types : Table) (w : World X) (t : ℕ) (o : Option (Thread X)) → Few w → Few (act_of e types w t o)
+  pub act-few : (types : Table) (w : World X) (t : ℕ) (o : Option (Thread X)) → Few w → Few (act_of e types w t o)
   act-few types w t None h = h
   act-few types w t (Some th) h = effect-few types w t th (e.step w.shared.version th.state) h
 
   -- ---- what is tried after an act
 
-  ongoing-few : (f : World X → World X) → ((w : World X) → Few w → Few (f w)) → (w : World X) → Few w → Few (ongoing f w)
+  pub ongoing-few : (f : World X → World X) → ((w : World X) → Few w → Few (f w)) → (w : World X) → Few w → Few (ongoing f w)
   ongoing-few f keeps w h = by-choice (is_none w.shared.ended) (f w) w (keeps w h) h
 
-  main_there-few : (phase : Phase) (w : World X) → Few w → Few (main_there e phase w)
+  pub main_there-few : (phase : Phase) (w : World X) → Few w → Few (main_there e phase w)
   main_there-few Run w h = h
   main_there-few Asked w h = h
   main_there-few Main w h = by-choice (main_is_normal e w.threads) _ w h h
   main_there-few Others w h = h
 
-  all_back-few : (phase : Phase) (w : World X) → Few w → Few (all_back e phase w)
+  pub all_back-few : (phase : Phase) (w : World X) → Few w → Few (all_back e phase w)
   all_back-few Run w h = h
   all_back-few Asked w h = h
   all_back-few Main w h = h
@@ -181,7 +181,7 @@ module _ {X : Type 0} (e : Engine X) (job : Job) where
   closing-few (Some j) w h =
       let roots = thread_roots e j w.shared.memory w.threads in decided-few j w roots (refusal e j w roots) h
 
-  closed_up-few : (phase : Phase) (w : World X) → Few w → Few (closed_up e job phase w)
+  pub closed_up-few : (phase : Phase) (w : World X) → Few w → Few (closed_up e job phase w)
   closed_up-few Run w h = h
   closed_up-few Asked w h = by-choice (all_parked w.threads) _ w (closing-few (passage_at job w.shared.version) w h) h
   closed_up-few Main w h = h
@@ -193,13 +193,13 @@ module _ {X : Type 0} (e : Engine X) (job : Job) where
       by-choice (is_some (passage_at job w.shared.version) && nat_le n w.shared.turns) (requested after w) w
       (few w (requested after w) (each _ w.threads) h) h
 
-  asked-few : (phase : Phase) (w : World X) → Few w → Few (asked job phase w)
+  pub asked-few : (phase : Phase) (w : World X) → Few w → Few (asked job phase w)
   asked-few Run w h = request-few w.shared.after w h
   asked-few Asked w h = h
   asked-few Main w h = h
   asked-few Others w h = h
 
-  before_turn-few : (w : World X) → Few w → Few (before_turn e job w)
+  pub before_turn-few : (w : World X) → Few w → Few (before_turn e job w)
   before_turn-few w h =
       let a = ongoing (λ u. asked job u.shared.phase u) w in
       let b = ongoing (stuck e) a in
@@ -217,14 +217,16 @@ module _ {X : Type 0} (e : Engine X) (job : Job) where
       let back = ongoing-few (λ u. all_back e u.shared.phase u) (λ u k. all_back-few u.shared.phase u k) b there in
       before_turn-few d (ongoing-few (λ u. closed_up e job u.shared.phase u) (λ u k. closed_up-few u.shared.phase u k) c back)
 
+  pub turn-few : (w : World X) (t : ℕ) → Few w → Few (turn e job w t)
+  turn-few w t h =
+      after_act-few (counted (acted e (types_at job w.shared.version) w t)) (act-few (types_at job w.shared.version) w t (slice_get w.threads t) h)
+
   from-few : (turns : List ℕ) (w : World X) → Few w → Few (world_from e job w turns)
   unfolding world_from
   from-few [] w h = h
-  from-few (t ∷ turns) w h =
-      from-few turns (turn e job w t)
-      (after_act-few (counted (acted e (types_at job w.shared.version) w t)) (act-few (types_at job w.shared.version) w t (slice_get w.threads t) h))
+  from-few (t ∷ turns) w h = from-few turns (turn e job w t) (turn-few w t h)
 
-  first-few : Few (first_world e job)
+  pub first-few : Few (first_world e job)
   first-few = before_turn-few (start e job) (omega arith)
 
 pub threads-are-few : (job : Job) (turns : List ℕ) → ThreadsAreFew job turns

@@ -9,6 +9,7 @@ use Rattle.kt_world.specs.declared.mark.Mark.{Mark}
 use Rattle.kt_world.specs.declared.mark.Mark.TheVariants as mark
 use Rattle.kt_world.specs.Job.{Job}
 use Rattle.kt_world.specs.Marks.{AreMarks}
+use Rattle.kt_world.specs.Told.{IsThread, PlansLeadOn, TellOf}
 use Rattle.kt_world.specs.Trees.{AreTurnsOf, tree_engine, world}
 use Rattle.kt_world.specs.Turns.{AreChosen, IsComplete, MayTurn, first_world, turn}
 use Rattle.kt_world.specs.Update.{refused}
@@ -36,6 +37,18 @@ TurnsAreCounted job turns = (world job turns).shared.turns ≡ length turns
 -- at most 64 threads are made beside `main`
 abbrev pub ThreadsAreFew : Job → List ℕ → Type 0
 ThreadsAreFew job turns = length (world job turns).threads ≤ 65
+
+-- each turn is that of a thread that may be there
+abbrev pub TurnsAreOfThreads : Job → List ℕ → Type 0
+TurnsAreOfThreads job turns = AreTurnsOf job turns → AllByRecursion IsThread turns
+
+-- no more turns are made than the budget allows
+abbrev pub BudgetIsKept : Job → List ℕ → Type 0
+BudgetIsKept job turns = AreTurnsOf job turns → length turns ≤ job.budget
+
+-- what marks tell is there: threads, and places of the version that a closing was to bring
+abbrev pub MarksTellOfJobs : Job → List ℕ → Type 0
+MarksTellOfJobs job turns = PlansLeadOn job → TellOf job 0 (world job turns).shared.marks
 
 -- a heap number is given out once: the next one never falls
 abbrev pub HeapNumbersNeverFall : Job → List ℕ → Type 0

@@ -9,8 +9,8 @@ pub mod Events
 pub mod Turns
 pub mod Scripts
 pub mod Rows
+pub mod Told
 pub mod Trees
 pub mod Marks
-pub mod Calm
 pub mod Laws
 pub mod Plain

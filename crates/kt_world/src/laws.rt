@@ -1,9 +1,7 @@
 //! Laws of worlds, each the contract of a function that does nothing.
 
-ghost use Rattle.kt_world.specs.Calm.{CalmTurnsAreOneStep};
-ghost use Rattle.kt_world.specs.Laws.{AListIsMade, EndedAreGone, EndsAreLast, HeapNumbersNeverFall, MainIsAlone, MarksAreInOrder, OneListIsComplete, OneMoreIsTheNext, OneMoreMayBeTaken, RefusalsChangeNothing, ThreadsAreFew, TurnsAreCounted};
+ghost use Rattle.kt_world.specs.Laws.{AListIsMade, BudgetIsKept, EndedAreGone, EndsAreLast, HeapNumbersNeverFall, MainIsAlone, MarksAreInOrder, MarksTellOfJobs, OneListIsComplete, OneMoreIsTheNext, OneMoreMayBeTaken, RefusalsChangeNothing, ThreadsAreFew, TurnsAreCounted, TurnsAreOfThreads};
 ghost use Rattle.kt_world.specs.Plain.{job_of};
-ghost use Rattle.kt_world.specs.Trees.{tree_engine};
 ghost use Rattle.kt_world.specs.Rows.{ChainRow, EndedRow, JoinRow, JoinTraps, RefusalRow, RequestRow, SignalRow, StuckRow, UpdateRow, WakeRow};
 
 use crate::job::Job;
@@ -13,7 +11,9 @@ use crate::job::Job;
 /// to its point after an update, no other thread may take a turn. The turns are counted. The marks stand in the order of
 /// their turns: each request is answered by a closing before the next one is made, an accepted closing is followed by
 /// `main` at its point and then by all threads at theirs, and the end of a run is its last mark. A thread that has ended
-/// has no call, there are at most 65 threads, and the next heap number never falls.
+/// has no call, there are at most 65 threads, and the next heap number never falls. A turn is that of a thread below 65, no
+/// more turns are made than the budget allows, and marks tell of threads below 65, and of globals and locals that the version
+/// has which a closing was to bring, where the job's plans do.
 pub fn world_law(job: &Job, turns: &[u8])
     ensures may { OneMoreMayBeTaken (job_of job.now) turns.now }
     ensures next { OneMoreIsTheNext (job_of job.now) turns.now }
@@ -23,6 +23,9 @@ pub fn world_law(job: &Job, turns: &[u8])
     ensures last { EndsAreLast (job_of job.now) turns.now }
     ensures ended { EndedAreGone (job_of job.now) turns.now }
     ensures threads { ThreadsAreFew (job_of job.now) turns.now }
+    ensures of_threads { TurnsAreOfThreads (job_of job.now) turns.now }
+    ensures budget { BudgetIsKept (job_of job.now) turns.now }
+    ensures tell { MarksTellOfJobs (job_of job.now) turns.now }
     ensures heap_numbers { HeapNumbersNeverFall (job_of job.now) turns.now }
 {}
 
@@ -31,12 +34,6 @@ pub fn world_law(job: &Job, turns: &[u8])
 pub fn schedule_law(job: &Job)
     ensures some { AListIsMade (job_of job.now) }
     ensures one { OneListIsComplete (job_of job.now) }
-{}
-
-/// So many calm turns of one thread are one step: turns whose acts are on memory, input and output alone and are answered, in phase
-/// `Run`, before the next request and the end of the budget, with the thread enabled behind the last of them.
-pub fn calm_law(job: &Job)
-    ensures { CalmTurnsAreOneStep (tree_engine (job_of job.now)) (job_of job.now) }
 {}
 
 /// A closing that is refused changes neither memory, nor kept values, nor the version in force.

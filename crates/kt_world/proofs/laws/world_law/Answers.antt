@@ -5,6 +5,8 @@ use Rattle.kt_world.proofs.HeapNumbers.{heap-numbers-never-fall}
 use Rattle.kt_world.specs.Plain.{job_of}
 use Rattle.kt_world.proofs.Marking.{ends-are-last, marks-are-in-order}
 use Rattle.kt_world.proofs.Numbering.{threads-are-few}
+use Rattle.kt_world.proofs.Taking.{budget-kept, turns-of-threads}
+use Rattle.kt_world.proofs.Telling.{marks-tell}
 use Rattle.kt_world.proofs.laws.world_law.Goals as goal
 
 pub returns : goal.returns
@@ -20,5 +22,8 @@ returns c =
       last = ends-are-last job turns;
       ended = ended-are-gone job turns;
       threads = threads-are-few job turns;
+      of_threads = turns-of-threads job turns;
+      budget = budget-kept job turns;
+      tell = marks-tell job turns;
       heap_numbers = heap-numbers-never-fall job turns;
     }
