@@ -1,4 +1,4 @@
-mod Pairs
-mod Parts
-mod Steps
-mod Syntax
+pub mod Pairs
+pub mod Parts
+pub mod Steps
+pub mod Syntax
