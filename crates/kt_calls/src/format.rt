@@ -1,6 +1,6 @@
 //! The format of `printf` (ISO/IEC 9899:2011, 7.21.6.1): `%d`, `%ld`, `%c`, `%s` and `%%` alone.
 
-ghost use Rattle.std.specs.Prelude.{◌≡◌, ◌++◌, ◌∷◌, [], List, ℕ, IfOk};
+ghost use Rattle.std.specs.Prelude.{◌≡◌, ◌≤◌, ◌++◌, ◌∷◌, [], List, ℕ, length, IfOk};
 ghost use Rattle.kt_typing.specs.declared.format.Conversion.{Conversion};
 ghost use Rattle.kt_typing.specs.Formats.{format_from, format_of, taken_by, is_taken, are_taken};
 ghost use Rattle.std.specs.Option.{option_map};
@@ -119,7 +119,8 @@ fn taken_by_one(piece: Conversion) -> usize
 
 /// How many arguments the pieces take.
 pub(crate) fn taken_by(pieces: &[Conversion]) -> usize
-    ensures { result ≡ taken_by pieces.now }
+    ensures taken { result ≡ taken_by pieces.now }
+    ensures at_most { result ≤ length pieces.now }
 {
     let mut taken = 0;
     for piece in pieces {

@@ -4,6 +4,7 @@
 pub mod allocation;
 pub mod argument;
 pub mod asking;
+pub mod builtin;
 pub mod call;
 pub mod format;
 pub mod function;

@@ -1,0 +1,14 @@
+use Rattle.std.proofs.Common.{subst, true}
+use Rattle.kt_grammar.specs.Tree.{term_of}
+use Rattle.kt_typing.specs.declared.standing.Use.TheVariants as use_as
+use Rattle.kt_typing.specs.Rules.{wrong, changed, step_operator, one}
+use Rattle.kt_typing.specs.Terms.{of_one}
+use Rattle.kt_operands.specs.Views.{environment_of, operand_of}
+use Rattle.kt_operators.specs.Judged.{Judges}
+use Rattle.kt_expressions.proofs.formed.stepped.Goals as goal
+
+pub returns : goal.returns
+returns c a h =
+    let env = environment_of c.args.env.now in
+    subst (λ n. Judges operand_of (of_one env n use_as.Value a (λ y. changed env n true (step_operator c.args.op) y one)) c.stepped_of.result) c.first_token-at.ensures
+    (c.stepped_of.ensures (wrong env use_as.Value) a (c.part_of-place.ensures a h))
