@@ -35,13 +35,13 @@ fn arguments(
     requires { from ≤ length args.now }
     ensures { JudgesParts turned_operands (parts_behind (environment_of env.now) call from (map term_of args.now)) result }
 {
-    let args = args.as_slice();
+    let items = args.as_slice();
     let mut done: Arguments = Ok(Vec::new(env.alloc));
-    let mut i = args.len();
+    let mut i = items.len();
     while from < i {
         i -= 1;
         let to = use_at(call, i);
-        let typed = expression(env, to, &args[i]);
+        let typed = expression(env, to, &items[i]);
         done = argument_before(env, to, typed, done);
     }
     done
@@ -70,7 +70,8 @@ pub fn expression(env: &Environment<'_>, to: Use, e: &Expr) -> Answer
         Expr::Rule(at, word) => worded(env, *at, *word),
         Expr::OldSymbol(at, name) => old_symbol(env, *at, name),
         Expr::Transform(at, a) => {
-            let typed = expression(env, Use::Value, a.get());
+            let inside = a.get();
+            let typed = expression(env, Use::Value, inside);
             transformed(env, *at, typed)
         }
         Expr::Index(a, i) => {
