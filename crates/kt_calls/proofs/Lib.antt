@@ -1,7 +1,7 @@
 mod Askings
 mod Calls
 mod Converted
-mod Leaves
-mod Lists
-mod Taken
+pub mod Lists
 mod Pieces
+mod Taken
+pub mod Leaves
