@@ -2,7 +2,6 @@
 use Rattle.std.proofs.Common.{◌≡◌, ℕ, Bool, true, false, if◌then◌else◌, List, [], ◌∷◌, Option, Some, None, Result, Ok, Err, refl, ap, subst, sym}
 use Rattle.kt_tree.specs.declared.expr.Request.{Request}
 use Rattle.kt_tree.specs.Kinds.{Head}
-use Rattle.kt_typing.specs.declared.fault.Fault.{Fault}
 use Rattle.kt_typing.specs.declared.format.Conversion.{Conversion}
 use Rattle.kt_typing.specs.Faults.{bad_type}
 use Rattle.kt_typing.specs.Environment.{Environment}

@@ -3,13 +3,15 @@ use Rattle.std.proofs.Common.{◌≡◌, ◌+◌, ◌==◌, ℕ, Bool, true, fal
 use Rattle.std.proofs.lemmas.Bool.Decides.{Decides-eqb}
 use Rattle.std.specs.Global.{Vec}
 use Rattle.kt_typing.specs.declared.fault.Fault.{Fault}
+use Rattle.kt_grammar.specs.declared.tree.Name.{Name}
+use Rattle.kt_typing.specs.declared.builtin.Builtin.{Builtin}
 use Rattle.kt_typing.specs.declared.format.Conversion.{Conversion}
-use Rattle.kt_typing.specs.Calls.{miscounted, written, plain_values, printed, print_form, format_in, behind_word}
+use Rattle.kt_typing.specs.Calls.{miscounted, written, plain_values, printed, print_form, format_in, behind_word, row, row_called}
 use Rattle.kt_typing.specs.Environment.{Environment}
 use Rattle.kt_typing.specs.Faults.{bad_type}
-use Rattle.kt_typing.specs.First.{earlier, first_fault}
+use Rattle.kt_typing.specs.First.{earlier}
 use Rattle.kt_typing.specs.Formats.{taken_by}
-use Rattle.kt_typing.specs.Forms.{Ruled, Parts, typed}
+use Rattle.kt_typing.specs.Forms.{Ruled, Parts}
 use Rattle.kt_typing.specs.Operands.{Operand}
 use Rattle.kt_typing.proofs.Exact.{typed-none}
 use Rattle.kt_operands.specs.declared.refusal.Refusal.{Refusal}
@@ -17,7 +19,7 @@ use Rattle.kt_operands.specs.declared.refusal.Refusal.TheVariants as refusal
 use Rattle.kt_operands.specs.declared.operand.Operand.{Operand as OperandCode}
 use Rattle.kt_operands.specs.Views.{operand_of}
 use Rattle.kt_operators.specs.Judged.{Judges, JudgesParts}
-use Rattle.kt_calls.specs.Arguments.{despite, operands_of}
+use Rattle.kt_calls.specs.Arguments.{despite, operands_of, row_parts}
 
 pub despite-judged : (always : Option Fault) (ps : Parts) (rule : List Operand → Result Operand Fault) (r : Result OperandCode Refusal)
     → Judges operand_of (Ruled None ps rule) r → Judges operand_of (Ruled always ps rule) (despite always r)
@@ -50,3 +52,11 @@ module _ (env : Environment) (at count : ℕ) (r : Result OperandCode Refusal) w
         cases : (b : Bool) → (count == 0) ≡ b → Judges operand_of (print_form env at count text ps) r
         cases true k = absurd (other ((Decides-eqb count 0).0 k))
         cases false k = rw k (by (behind_word text ps) (rw k at h))
+
+-- a built-in call, by its row
+
+pub called-by : (env : Environment) (at count : ℕ) (text : Option (List ℕ)) (name : Option Name) (arguments : Result (Vec OperandCode) Refusal) (r : Result OperandCode Refusal) (b d : Builtin) → b ≡ d
+    → ((ps : Parts) → JudgesParts operands_of (row_parts env count text name ps (row d)) arguments → Judges operand_of (row_called env at count text name ps (row d)) r)
+    → (ps : Parts) → JudgesParts operands_of (row_parts env count text name ps (row b)) arguments → Judges operand_of (row_called env at count text name ps (row b)) r
+called-by env at count text name arguments r b d is h ps =
+    subst (λ (e : Builtin). JudgesParts operands_of (row_parts env count text name ps (row e)) arguments → Judges operand_of (row_called env at count text name ps (row e)) r) (sym is) (h ps)

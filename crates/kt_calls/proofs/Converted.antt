@@ -1,10 +1,9 @@
 -- Arguments that are converted one by one.
-use Rattle.std.proofs.Common.{◌≡◌, ◌+◌, ◌<◌, ℕ, List, [], ◌∷◌, ◌++◌, map, length, drop, reverse, get_or, Option, Some, None, Result, Ok, Err, refl, sym, ap, ◌∙◌, subst, arith}
+use Rattle.std.proofs.Common.{◌≡◌, ◌+◌, ◌<◌, ℕ, List, [], ◌∷◌, ◌++◌, map, length, drop, reverse, get_or, Option, Some, None, Ok, Err, refl, sym, ap, ◌∙◌, arith}
 use Rattle.std.proofs.lemmas.List.{at_drop_more, reverse-append}
 use Rattle.kt_tree.specs.Kinds.{Scope}
-use Rattle.kt_typing.specs.declared.fault.Fault.{Fault}
 use Rattle.kt_typing.specs.Faults.{bad_type}
-use Rattle.kt_typing.specs.Operands.{Operand, Value}
+use Rattle.kt_typing.specs.Operands.{Value}
 use Rattle.kt_typing.specs.Rules.{convert}
 use Rattle.kt_typing.specs.Calls.{both_values, converted_all}
 use Rattle.kt_operands.specs.declared.refusal.Refusal.{Refusal}
@@ -47,8 +46,8 @@ module _ (s : Scope) (at : ℕ) (vs : List Value) (ps : List ℕ) (i : ℕ) (old
   pub lacks : {W : Type 0} (list : W → List Value) → i < length ps → Left → old ≡ [] → Follows list (found at whole) (Err (refusal.Fault (bad_type at)))
   lacks list within left none =
       let is : whole ≡ None =
-          sym left ∙ at_drop_more (λ ts. joined vs (converted_all s ts (map operand_of (reverse old)))) ps i 0 within
-          ∙ ap (λ (xs : List OperandCode). joined vs (converted_all s (get_or ps i 0 ∷ drop (i + 1) ps) (map operand_of (reverse xs)))) none in
+      sym left ∙ at_drop_more (λ ts. joined vs (converted_all s ts (map operand_of (reverse old)))) ps i 0 within
+      ∙ ap (λ (xs : List OperandCode). joined vs (converted_all s (get_or ps i 0 ∷ drop (i + 1) ps) (map operand_of (reverse xs)))) none in
       ap (found at) is
 
 pub is-nil : {A : Type 0} (xs : List A) → length xs ≡ 0 → xs ≡ []

@@ -1,5 +1,5 @@
 -- What is judged without parts.
-use Rattle.std.proofs.Common.{◌≡◌, Option, Some, None, Result, Ok, Err, refl}
+use Rattle.std.proofs.Common.{None, Result, Ok, Err, refl}
 use Rattle.kt_typing.specs.declared.fault.Fault.{Fault}
 use Rattle.kt_typing.specs.Operands.{Operand}
 use Rattle.kt_typing.specs.Calls.{leaf}

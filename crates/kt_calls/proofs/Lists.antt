@@ -1,6 +1,5 @@
 -- Lists of arguments and of values, from the first to the last.
-use Rattle.std.proofs.Common.{◌≡◌, ◌==◌, ◌&&◌, ℕ, Bool, true, false, List, [], ◌∷◌, ◌++◌, map, Option, Some, None, Result, Ok, Err, refl, sym, ap, ◌∙◌, append_assoc, append-nil}
-use Rattle.kt_tree.specs.declared.expr.Expr.{Expr}
+use Rattle.std.proofs.Common.{◌≡◌, ◌==◌, ◌&&◌, ℕ, Bool, true, false, List, [], ◌∷◌, ◌++◌, map, Option, Some, None, Ok, refl, sym, ap, ◌∙◌, append_assoc}
 use Rattle.kt_tree.specs.Tree.{Operated, More, expression_of, expressions_of}
 use Rattle.std.proofs.lemmas.Bool.Decides.{Decides-eqb}
 use Rattle.kt_tree.specs.declared.expr.Operation.TheVariants as operation
@@ -8,7 +7,7 @@ use Rattle.kt_tree.specs.Kinds.{Scope, is_operation, is_pointer}
 use Rattle.kt_tree.specs.Typed.{same_types}
 use Rattle.kt_typing.specs.Operands.{Operand, Value, of_type, types_of, trees_of, value}
 use Rattle.kt_typing.specs.Rules.{is_null, null_value, converted, convert}
-use Rattle.kt_typing.specs.Calls.{both_values, converted_all, plain_values}
+use Rattle.kt_typing.specs.Calls.{both_values, converted_all}
 use Rattle.kt_operands.specs.declared.operand.Value.{Value as ValueCode}
 use Rattle.kt_operands.specs.Views.{value_of}
 use Rattle.kt_operands.specs.Judged.{found}

@@ -1,5 +1,5 @@
 -- The pieces of a format, byte by byte.
-use Rattle.std.proofs.Common.{◌≡◌, ℕ, List, [], ◌∷◌, ◌++◌, Option, Some, None, refl, sym, ap, append_assoc}
+use Rattle.std.proofs.Common.{◌≡◌, ℕ, List, [], ◌∷◌, ◌++◌, Option, Some, None, refl, ap, append_assoc}
 use Rattle.kt_typing.specs.declared.format.Conversion.{Conversion}
 use Rattle.kt_typing.specs.Formats.{before, format_from}
 use Rattle.kt_calls.specs.declared.format.Standpoint.{Standpoint}

@@ -1,6 +1,5 @@
 -- Calls of one argument, and of two.
-use Rattle.std.proofs.Common.{◌≡◌, ℕ, List, [], ◌∷◌, Option, Some, None, Result, Ok, Err, refl, ap, subst, sym}
-use Rattle.kt_typing.specs.declared.fault.Fault.{Fault}
+use Rattle.std.proofs.Common.{◌≡◌, ℕ, List, [], ◌∷◌, Some, None, Result, Err, refl, ap, subst, sym}
 use Rattle.kt_typing.specs.Faults.{bad_type}
 use Rattle.kt_typing.specs.Environment.{Environment}
 use Rattle.kt_typing.specs.Operands.{Operand}

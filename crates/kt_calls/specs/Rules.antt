@@ -1,7 +1,6 @@
 -- The rule of each call as a function of its arguments.
-use Rattle.std.specs.Prelude.{ℕ, List, [], ◌∷◌, Option, Some, None, Result, Ok, Err}
+use Rattle.std.specs.Prelude.{ℕ, List, [], ◌∷◌, Some, None, Result, Err}
 use Rattle.std.specs.Option.{option_map}
-use Rattle.kt_tree.specs.declared.expr.Request.{Request}
 use Rattle.kt_tree.specs.declared.expr.Request.TheVariants as request
 use Rattle.kt_tree.specs.Kinds.{int_type}
 use Rattle.kt_typing.specs.declared.fault.Fault.{Fault}

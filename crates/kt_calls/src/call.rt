@@ -31,7 +31,13 @@ fn faulty(env: &Environment<'_>, at: u32, kind: Kind, arguments: Arguments) -> A
 }
 
 // A call of the function of a number.
-fn function_called(env: &Environment<'_>, at: u32, count: usize, function: u32, arguments: Arguments) -> Answer
+fn function_called(
+    env: &Environment<'_>,
+    at: u32,
+    count: usize,
+    function: u32,
+    arguments: Arguments,
+) -> Answer
     ensures { AfterAll arguments (λ ps. function_called (environment_of env.now) at function count ps (slice_get (scope_of env.now).functions function)) result }
 {
     match env.head(function) {
@@ -44,7 +50,13 @@ fn function_called(env: &Environment<'_>, at: u32, count: usize, function: u32, 
 }
 
 /// A call, at a place and with so many arguments, of what a name stands for.
-pub fn meaning_called(env: &Environment<'_>, at: u32, count: usize, meaning: Meaning, arguments: Arguments) -> Answer
+pub fn meaning_called(
+    env: &Environment<'_>,
+    at: u32,
+    count: usize,
+    meaning: Meaning,
+    arguments: Arguments,
+) -> Answer
     ensures { AfterAll arguments (λ ps. meaning_called (environment_of env.now) at count ps (meaning_of meaning)) result }
 {
     match meaning {
@@ -57,14 +69,27 @@ pub fn meaning_called(env: &Environment<'_>, at: u32, count: usize, meaning: Mea
 }
 
 // A call that takes so many arguments.
-fn counted(env: &Environment<'_>, at: u32, taken: usize, count: usize, rule: Rule<'_>, arguments: Arguments) -> Answer
+fn counted(
+    env: &Environment<'_>,
+    at: u32,
+    taken: usize,
+    count: usize,
+    rule: Rule<'_>,
+    arguments: Arguments,
+) -> Answer
     ensures { AfterAll arguments (λ ps. Ruled (miscounted at taken count) ps (rule_of (environment_of env.now) at rule.entry)) result }
 {
     ruled(env, at, miscounted(at, taken, count), rule, arguments)
 }
 
 // `printf` of a format.
-fn printed(env: &Environment<'_>, at: u32, count: usize, format: &[u8], arguments: Arguments) -> Answer
+fn printed(
+    env: &Environment<'_>,
+    at: u32,
+    count: usize,
+    format: &[u8],
+    arguments: Arguments,
+) -> Answer
     ensures { AfterAll arguments (λ ps. printed (environment_of env.now) at count ps (format_of format.now)) result }
 {
     let bad = Fault {
@@ -86,7 +111,13 @@ fn printed(env: &Environment<'_>, at: u32, count: usize, format: &[u8], argument
 }
 
 // `printf` with so many arguments, of which the first may be a string.
-fn print_form(env: &Environment<'_>, at: u32, count: usize, text: Option<&[u8]>, arguments: Arguments) -> Answer
+fn print_form(
+    env: &Environment<'_>,
+    at: u32,
+    count: usize,
+    text: Option<&[u8]>,
+    arguments: Arguments,
+) -> Answer
     ensures { (ps : Parts) → JudgesParts operands_of (row_parts (environment_of env.now) count (option_map (λ t. t.now) text.entry) None ps Prints) arguments → Judges operand_of (print_form (environment_of env.now) at count (option_map (λ t. t.now) text.entry) ps) result }
 {
     if count == 0 {
@@ -121,7 +152,14 @@ pub fn builtin_called(
         Builtin::Malloc => counted(env, at, 1, count, Rule::Allocates, arguments),
         Builtin::Calloc => counted(env, at, 2, count, Rule::AllocatesZeros, arguments),
         Builtin::Free => counted(env, at, 1, count, Rule::Release, arguments),
-        Builtin::GetChar => counted(env, at, 0, count, Rule::Nothing(Request::GetChar, Some(INT)), arguments),
+        Builtin::GetChar => counted(
+            env,
+            at,
+            0,
+            count,
+            Rule::Nothing(Request::GetChar, Some(INT)),
+            arguments,
+        ),
         Builtin::PutChar => counted(env, at, 1, count, Rule::One(Request::PutChar), arguments),
         Builtin::Puts => counted(env, at, 1, count, Rule::One(Request::Puts), arguments),
         Builtin::Printf => print_form(env, at, count, text, arguments),
@@ -131,9 +169,23 @@ pub fn builtin_called(
         Builtin::Create => counted(env, at, 2, count, Rule::Begins, arguments),
         Builtin::Join => counted(env, at, 1, count, Rule::One(Request::Join), arguments),
         Builtin::Update => counted(env, at, 1, count, Rule::Reaches(text), arguments),
-        Builtin::IsUpdating => counted(env, at, 0, count, Rule::Nothing(Request::IsUpdating, Some(INT)), arguments),
+        Builtin::IsUpdating => counted(
+            env,
+            at,
+            0,
+            count,
+            Rule::Nothing(Request::IsUpdating, Some(INT)),
+            arguments,
+        ),
         Builtin::IsUpdatingFrom => counted(env, at, 1, count, Rule::AsksFrom(text), arguments),
-        Builtin::Automigrate => counted(env, at, 0, count, Rule::Nothing(Request::Automigrate, None), arguments),
+        Builtin::Automigrate => counted(
+            env,
+            at,
+            0,
+            count,
+            Rule::Nothing(Request::Automigrate, None),
+            arguments,
+        ),
         Builtin::MigrateLocal => counted(env, at, 1, count, Rule::Keeps(name), arguments),
     }
 }

@@ -80,10 +80,7 @@ fn with_piece(
 }
 
 /// The pieces of a format, where it has no other conversion.
-pub(crate) fn format_of(
-    alloc: Global,
-    format: &[u8],
-) -> Result<Option<Vec<Conversion>>, AllocError>
+pub(crate) fn format_of(alloc: Global, format: &[u8]) -> Result<Option<Vec<Conversion>>, AllocError>
     ensures { IfOk result (λ pieces. option_map (λ cs. cs.items) pieces ≡ format_of format.now) }
 {
     let mut pieces = Vec::new(alloc);

@@ -9,7 +9,7 @@ ghost use Rattle.kt_operands.specs.Views.{scope_of, head_of, operand_of};
 ghost use Rattle.kt_calls.specs.Arguments.{operands_of, values_of};
 
 use crate::argument::Answer;
-use crate::values::{set_apart, converted_all};
+use crate::values::{converted_all, set_apart};
 use kt_operands::environment::Environment;
 use kt_operands::given::given;
 use kt_operands::meaning::Head;

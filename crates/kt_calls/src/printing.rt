@@ -10,7 +10,7 @@ ghost use Rattle.kt_calls.specs.Arguments.{operands_of, values_of};
 
 use crate::argument::Answer;
 use crate::format::are_taken;
-use crate::values::{Apart, set_apart, plain_values};
+use crate::values::{Apart, plain_values, set_apart};
 use kt_operands::environment::Environment;
 use kt_operands::given::requested_with;
 use kt_operands::operand::{Operand, Value, bad_type};

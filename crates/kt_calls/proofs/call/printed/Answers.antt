@@ -1,4 +1,4 @@
-use Rattle.std.proofs.Common.{◌≡◌, ◌+◌, ℕ, List, Option, Some, None, ap, ◌∙◌, subst, arith}
+use Rattle.std.proofs.Common.{◌≡◌, ◌+◌, List, Option, Some, None, ap, ◌∙◌, subst, arith}
 use Rattle.kt_typing.specs.declared.format.Conversion.{Conversion}
 use Rattle.kt_typing.specs.Calls.{printed}
 use Rattle.kt_typing.specs.Formats.{format_of, taken_by}
