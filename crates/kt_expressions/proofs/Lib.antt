@@ -1,3 +1,3 @@
-mod Arguments
 mod Lists
 mod Terms
+mod Words

@@ -1,12 +1,15 @@
 -- Lists of arguments, from the last to the first.
-use Rattle.std.proofs.Common.{◌≡◌, ◌<◌, ◌≤◌, ℕ, suc, List, [], ◌∷◌, ◌++◌, map, length, drop, reverse, get_or, Option, Some, None, Result, Ok, Err, refl, sym, ap, ◌∙◌, subst, arith}
+use Rattle.std.proofs.Common.{◌≡◌, ◌<◌, ◌≤◌, ℕ, zero, suc, List, [], ◌∷◌, ◌++◌, map, length, drop, reverse, get_or, Option, Some, None, Result, Ok, Err, refl, sym, ap, ◌∙◌, subst, arith}
 use Rattle.std.proofs.lemmas.List.{reverse-append}
 use Rattle.kt_grammar.specs.declared.tree.Expr.{Expr}
 use Rattle.kt_grammar.specs.Tree.{Nothing, term_of, terms_of}
 use Rattle.kt_typing.specs.declared.standing.Use.{Use}
 use Rattle.kt_typing.specs.Environment.{Environment}
 use Rattle.std.specs.Global.{Vec}
+use Rattle.kt_grammar.specs.declared.tree.Name.{Name}
+use Rattle.kt_typing.specs.declared.builtin.Builtin.{Builtin}
 use Rattle.kt_typing.specs.declared.fault.Fault.{Fault}
+use Rattle.kt_typing.specs.Calls.{row, row_called}
 use Rattle.kt_typing.specs.Forms.{Form, Parts, NoPart, Part}
 use Rattle.kt_typing.specs.Operands.{Operand}
 use Rattle.kt_typing.specs.Rules.{wrong}
@@ -15,25 +18,25 @@ use Rattle.kt_operands.specs.declared.operand.Operand.{Operand as OperandCode}
 use Rattle.kt_operands.specs.declared.refusal.Refusal.{Refusal}
 use Rattle.kt_operands.specs.declared.refusal.Refusal.TheVariants as refusal
 use Rattle.kt_operands.specs.Views.{operand_of}
-use Rattle.kt_operators.specs.Judged.{JudgesPart, JudgesParts, both_of}
+use Rattle.kt_operators.specs.Judged.{Judges, JudgesPart, JudgesParts, both_of}
 use Rattle.kt_operators.proofs.Parts.{more-parts}
-use Rattle.kt_calls.specs.Arguments.{operands_of}
+use Rattle.kt_calls.specs.Arguments.{operands_of, row_parts}
 use Rattle.kt_expressions.specs.Arguments.{use_at, turned_operands}
 
 pub no-parts : (env : Environment) (us : List Use) → parts env us Nothing ≡ NoPart
 no-parts env [] = refl
 no-parts env (u ∷ us) = refl
 
-drop-nil : {A : Type 0} (i : ℕ) → drop i ([] : List A) ≡ []
-drop-nil 0 = refl
+drop-nil : {A : Type 0} (i : ℕ) → drop {A = A} i [] ≡ []
+drop-nil zero = refl
 drop-nil (suc i) = refl
 
 -- the argument of a number, and those behind it
 pub parts-from : (env : Environment) (us : List Use) (es : List Expr) (j : ℕ) (e : Expr) → j < length es → e ≡ get_or es j e
     → parts env (drop j us) (terms_of (drop j (map term_of es))) ≡ Part (wrong env (use_at us j)) (form env (use_at us j) (term_of e)) (parts env (drop (suc j) us) (terms_of (drop (suc j) (map term_of es))))
 parts-from env us [] j e h is = absurd (omega arith)
-parts-from env [] (a ∷ es) 0 e h is = rw (← is) refl
-parts-from env (u ∷ us) (a ∷ es) 0 e h is = rw (← is) refl
+parts-from env [] (a ∷ es) zero e h is = rw (← is) refl
+parts-from env (u ∷ us) (a ∷ es) zero e h is = rw (← is) refl
 parts-from env [] (a ∷ es) (suc j) e h is =
     let inside = parts-from env [] es j e (omega arith) is in
     subst (λ (us : List Use). parts env us (terms_of (drop j (map term_of es))) ≡ Part (wrong env (use_at [] j)) (form env (use_at [] j) (term_of e)) (parts env [] (terms_of (drop (suc j) (map term_of es)))))
@@ -74,3 +77,13 @@ one-more w a ps x xs ys is h k = rw h (rw k (ap (λ (zs : List OperandCode). Som
 pub turned-stops : (ps : Parts) (e : Refusal) → JudgesParts turned_operands ps (Err e) → JudgesParts operands_of ps (Err e)
 turned-stops ps refusal.NoMemory h = tt
 turned-stops ps (refusal.Fault f) h = h
+
+-- a built-in call, of arguments that were counted and looked at
+pub builtin-judged : (env : Environment) (at : ℕ) (b : Builtin) (ps : Parts) (arguments : Result (Vec OperandCode) Refusal) (r : Result OperandCode Refusal) (n m : ℕ) (t u : Option (List ℕ)) (x y : Option Name)
+    → n ≡ m → t ≡ u → x ≡ y
+    → ((qs : Parts) → JudgesParts operands_of (row_parts env n t x qs (row b)) arguments → Judges operand_of (row_called env at n t x qs (row b)) r)
+    → JudgesParts operands_of (row_parts env m u y ps (row b)) arguments → Judges operand_of (row_called env at m u y ps (row b)) r
+builtin-judged env at b ps arguments r n m t u x y i j k h =
+    subst (λ (o : ℕ). JudgesParts operands_of (row_parts env o u y ps (row b)) arguments → Judges operand_of (row_called env at o u y ps (row b)) r) i
+    (subst (λ (o : Option (List ℕ)). JudgesParts operands_of (row_parts env n o y ps (row b)) arguments → Judges operand_of (row_called env at n o y ps (row b)) r) j
+    (subst (λ (o : Option Name). JudgesParts operands_of (row_parts env n t o ps (row b)) arguments → Judges operand_of (row_called env at n t o ps (row b)) r) k (h ps)))

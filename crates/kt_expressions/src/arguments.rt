@@ -5,9 +5,9 @@ ghost use Rattle.std.specs.Option.{option_map};
 ghost use Rattle.kt_grammar.specs.Tree.{term_of, terms_of};
 ghost use Rattle.kt_typing.specs.declared.builtin.Builtin.TheVariants as builtin;
 ghost use Rattle.kt_typing.specs.declared.fault.Fault.{Fault};
-ghost use Rattle.kt_typing.specs.Calls.{row};
+ghost use Rattle.kt_typing.specs.Calls.{row, uses_of};
 ghost use Rattle.kt_typing.specs.Forms.{Form, Parts, Part};
-ghost use Rattle.kt_typing.specs.Operands.{Operand};
+ghost use Rattle.kt_typing.specs.Operands.{Operand as Typed};
 ghost use Rattle.kt_typing.specs.Rules.{wrong};
 ghost use Rattle.kt_typing.specs.Terms.{argument_uses};
 ghost use Rattle.kt_operands.specs.Views.{environment_of, operand_of};
@@ -27,14 +27,51 @@ use kt_operators::forms::Answer;
 use kt_typing::{Builtin, Use};
 use sqlite_items::Items;
 
+// What the argument of a number of a built-in call is used as.
+#[tactic(auto, using(crate::proofs::Words::uses))]
+fn use_of(builtin: Builtin, i: usize) -> Use
+    ensures { result ≡ use_at (uses_of builtin) i }
+{
+    match builtin {
+        Builtin::Malloc => {
+            if i == 0 {
+                Use::Count
+            } else {
+                Use::Value
+            }
+        }
+        Builtin::Calloc => {
+            if i == 1 {
+                Use::Size
+            } else {
+                Use::Value
+            }
+        }
+        Builtin::Free => Use::Value,
+        Builtin::GetChar => Use::Value,
+        Builtin::PutChar => Use::Value,
+        Builtin::Puts => Use::Value,
+        Builtin::Printf => Use::Value,
+        Builtin::Lock => Use::Value,
+        Builtin::Unlock => Use::Value,
+        Builtin::InitMutex => Use::Value,
+        Builtin::Create => Use::Value,
+        Builtin::Join => Use::Value,
+        Builtin::Update => Use::Value,
+        Builtin::IsUpdating => Use::Value,
+        Builtin::IsUpdatingFrom => Use::Value,
+        Builtin::Automigrate => Use::Value,
+        Builtin::MigrateLocal => Use::Value,
+    }
+}
+
 /// What the argument of a number is used as.
 pub(crate) fn use_at(call: Option<Builtin>, i: usize) -> Use
     ensures { result ≡ use_at (argument_uses call) i }
 {
     match call {
-        Some(Builtin::Malloc) if i == 0 => Use::Count,
-        Some(Builtin::Calloc) if i == 1 => Use::Size,
-        _ => Use::Value,
+        None => Use::Value,
+        Some(builtin) => use_of(builtin, i),
     }
 }
 
@@ -89,7 +126,7 @@ pub(crate) fn words_of(call: Option<Builtin>, args: &Items<Expr>) -> usize
 
 // Operands, from the last to the first, and one more before them.
 fn put_before(x: Operand, mut rest: Vec<Operand>) -> Arguments
-    ensures { (w : Operand → Option Fault) (a : Form) (ps : Parts) → JudgesPart operand_of w a (Ok x) → JudgesParts turned_operands ps (Ok rest) → JudgesParts turned_operands (Part w a ps) result }
+    ensures { (w : Typed → Option Fault) (a : Form) (ps : Parts) → JudgesPart operand_of w a (Ok x) → JudgesParts turned_operands ps (Ok rest) → JudgesParts turned_operands (Part w a ps) result }
 {
     rest.push(x)?;
     Ok(rest)
@@ -97,7 +134,7 @@ fn put_before(x: Operand, mut rest: Vec<Operand>) -> Arguments
 
 // A part before others.
 fn part_before(x: Answer, rest: Arguments) -> Arguments
-    ensures { (w : Operand → Option Fault) (a : Form) (ps : Parts) → JudgesPart operand_of w a x → JudgesParts turned_operands ps rest → JudgesParts turned_operands (Part w a ps) result }
+    ensures { (w : Typed → Option Fault) (a : Form) (ps : Parts) → JudgesPart operand_of w a x → JudgesParts turned_operands ps rest → JudgesParts turned_operands (Part w a ps) result }
 {
     match both(x, rest) {
         Ok((first, others)) => put_before(first, others),

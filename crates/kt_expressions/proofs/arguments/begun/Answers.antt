@@ -5,7 +5,7 @@ use Rattle.kt_typing.specs.Calls.{leaf, entry}
 use Rattle.kt_operands.specs.Views.{environment_of}
 use Rattle.kt_operators.specs.Judged.{JudgesParts}
 use Rattle.kt_expressions.specs.Arguments.{turned_operands, words_of, parts_behind}
-use Rattle.kt_expressions.proofs.Arguments.{begun-named, begun-other}
+use Rattle.kt_expressions.proofs.Words.{begun-named, begun-other}
 use Rattle.kt_expressions.proofs.arguments.begun.Goals as goal
 
 pub returns-in-Some : goal.returns-in-Some

@@ -3,7 +3,7 @@ use Rattle.kt_grammar.specs.Tree.{term_of}
 use Rattle.kt_operands.specs.Views.{environment_of}
 use Rattle.kt_operators.specs.Judged.{JudgesParts}
 use Rattle.kt_expressions.specs.Arguments.{turned_operands}
-use Rattle.kt_expressions.proofs.Arguments.{parts-same}
+use Rattle.kt_expressions.proofs.Words.{parts-same}
 use Rattle.kt_expressions.proofs.arguments.call_parts.Goals as goal
 
 pub returns-in_default : goal.returns-in_default

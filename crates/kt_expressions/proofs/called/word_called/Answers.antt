@@ -1,11 +1,24 @@
-use Rattle.std.proofs.Common.{[], map, subst}
+use Rattle.std.proofs.Common.{◌≡◌, ℕ, List, Option, Bor, [], map, length, sym, ap, ◌∙◌, subst}
+use Rattle.std.specs.Option.{option_map}
+use Rattle.kt_grammar.specs.declared.tree.Name.{Name}
 use Rattle.kt_grammar.specs.Tree.{term_of, terms_of}
-use Rattle.kt_typing.specs.Calls.{row, uses_of}
-use Rattle.kt_typing.specs.Terms.{parts}
-use Rattle.kt_operands.specs.Views.{environment_of, operand_of, meaning_of}
-use Rattle.kt_operators.specs.Judged.{Judges}
-use Rattle.kt_expressions.proofs.Lists.{counted}
+use Rattle.kt_typing.specs.Calls.{row, row_called, uses_of}
+use Rattle.kt_typing.specs.Terms.{argument_count, first_text, first_name, parts}
+use Rattle.kt_operands.specs.Views.{environment_of, operand_of}
+use Rattle.kt_operators.specs.Judged.{Judges, JudgesParts}
+use Rattle.kt_calls.specs.Arguments.{operands_of, row_parts}
+use Rattle.kt_expressions.specs.Arguments.{parts_of_call}
+use Rattle.kt_expressions.proofs.Lists.{counted, builtin-judged}
 use Rattle.kt_expressions.proofs.called.word_called.Goals as goal
 
 pub returns : goal.returns
-returns c h = ?
+returns c h =
+    let env = environment_of c.args.env.now in
+    let T = terms_of (map term_of c.args.args.now) in
+    let judged = c.in_order-judged.ensures (parts_of_call env c.args.builtin T) (c.call_parts.ensures h) in
+    let m = c.builtin_called.ensures in
+    let l = c.len.ensures in
+    let a = c.as_slice.ensures in
+    let n = c.first_text-text.ensures in
+    let b = c.first_name-first.ensures in
+    ?
