@@ -13,7 +13,7 @@ use Rattle.kt_typing.specs.Calls.{row, row_called}
 use Rattle.kt_typing.specs.Forms.{Form, Parts, NoPart, Part}
 use Rattle.kt_typing.specs.Operands.{Operand}
 use Rattle.kt_typing.specs.Rules.{wrong}
-use Rattle.kt_typing.specs.Terms.{argument_count, form, parts}
+use Rattle.kt_typing.specs.Terms.{argument_count, argument_uses, form, parts}
 use Rattle.kt_operands.specs.declared.operand.Operand.{Operand as OperandCode}
 use Rattle.kt_operands.specs.declared.refusal.Refusal.{Refusal}
 use Rattle.kt_operands.specs.declared.refusal.Refusal.TheVariants as refusal
@@ -21,7 +21,7 @@ use Rattle.kt_operands.specs.Views.{operand_of}
 use Rattle.kt_operators.specs.Judged.{Judges, JudgesPart, JudgesParts, both_of}
 use Rattle.kt_operators.proofs.Parts.{more-parts}
 use Rattle.kt_calls.specs.Arguments.{operands_of, row_parts}
-use Rattle.kt_expressions.specs.Arguments.{use_at, turned_operands}
+use Rattle.kt_expressions.specs.Arguments.{use_at, turned_operands, parts_behind}
 
 pub no-parts : (env : Environment) (us : List Use) → parts env us Nothing ≡ NoPart
 no-parts env [] = refl
@@ -87,3 +87,14 @@ builtin-judged env at b ps arguments r n m t u x y i j k h =
     subst (λ (o : ℕ). JudgesParts operands_of (row_parts env o u y ps (row b)) arguments → Judges operand_of (row_called env at o u y ps (row b)) r) i
     (subst (λ (o : Option (List ℕ)). JudgesParts operands_of (row_parts env n o y ps (row b)) arguments → Judges operand_of (row_called env at n o y ps (row b)) r) j
     (subst (λ (o : Option Name). JudgesParts operands_of (row_parts env n t o ps (row b)) arguments → Judges operand_of (row_called env at n t o ps (row b)) r) k (h ps)))
+
+-- one argument more, before those behind it
+pub parts-next : (env : Environment) (call : Option Builtin) (es : List Expr) (i j : ℕ) (e : Expr) (u : Use) (new : Result (Vec OperandCode) Refusal) → i ≡ suc j → j < length es → e ≡ get_or es j e
+    → u ≡ use_at (argument_uses call) j → JudgesParts turned_operands (Part (wrong env u) (form env u (term_of e)) (parts_behind env call i (map term_of es))) new
+    → JudgesParts turned_operands (parts_behind env call j (map term_of es)) new
+parts-next env call es i j e u new k h is same by =
+    let us = argument_uses call in
+    let at = use_at us j in
+    subst (λ ps. JudgesParts turned_operands ps new) (sym (parts-from env us es j e h is))
+    (subst (λ (n : ℕ). JudgesParts turned_operands (Part (wrong env at) (form env at (term_of e)) (parts env (drop n us) (terms_of (drop n (map term_of es))))) new) k
+    (subst (λ (v : Use). JudgesParts turned_operands (Part (wrong env v) (form env v (term_of e)) (parts_behind env call i (map term_of es))) new) same by))

@@ -103,9 +103,9 @@ pub fn expression(env: &Environment<'_>, to: Use, e: &Expr) -> Answer
             prefixed(env, *at, *op, typed_operand)
         }
         Expr::Cast(at, ty, a) => {
-            let inside = a.get();
-            let typed_inside = expression(env, Use::Value, inside);
-            converted(env, *at, ty, inside, typed_inside)
+            let source = a.get();
+            let typed_source = expression(env, Use::Value, source);
+            converted(env, *at, ty, source, typed_source)
         }
         Expr::Binary(op, a, b) => {
             let left = a.get();
@@ -125,11 +125,11 @@ pub fn expression(env: &Environment<'_>, to: Use, e: &Expr) -> Answer
             chosen(env, test, typed_test, typed_one, typed_other)
         }
         Expr::Assign(op, a, b) => {
-            let place = a.get();
+            let target = a.get();
             let value = b.get();
-            let typed_place = expression(env, Use::Value, place);
+            let typed_target = expression(env, Use::Value, target);
             let typed_value = expression(env, Use::Value, value);
-            assigned(env, *op, place, typed_place, typed_value)
+            assigned(env, *op, target, typed_target, typed_value)
         }
     }
 }

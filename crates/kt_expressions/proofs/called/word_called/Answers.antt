@@ -16,9 +16,7 @@ returns c h =
     let env = environment_of c.args.env.now in
     let T = terms_of (map term_of c.args.args.now) in
     let judged = c.in_order-judged.ensures (parts_of_call env c.args.builtin T) (c.call_parts.ensures h) in
-    let m = c.builtin_called.ensures in
-    let l = c.len.ensures in
-    let a = c.as_slice.ensures in
-    let n = c.first_text-text.ensures in
-    let b = c.first_name-first.ensures in
-    ?
+    let count : length c.as_slice.result.now ≡ argument_count T = ap length c.as_slice.ensures ∙ sym (counted c.args.args.now) in
+    builtin-judged env c.args.name.now.at c.args.builtin (parts env (uses_of c.args.builtin) T) c.in_order-judged.result c.builtin_called.result
+    (length c.as_slice.result.now) (argument_count T) (option_map (λ (t : Bor (List ℕ)). t.now) c.first_text-text.result) (first_text T) (option_map (λ (n : Bor Name). n.now) c.first_name-first.result) (first_name T)
+    count c.first_text-text.ensures c.first_name-first.ensures c.builtin_called.ensures judged

@@ -1,4 +1,4 @@
-use Rattle.std.proofs.Common.{◌≡◌, ℕ, List, map, length, sym, ap, ◌∙◌, subst, arith}
+use Rattle.std.proofs.Common.{◌≡◌, ◌-◌, ℕ, List, map, length, sym, ap, ◌∙◌, subst, arith}
 use Rattle.kt_grammar.specs.declared.tree.Expr.{Expr}
 use Rattle.kt_grammar.specs.declared.tree.Expr.TheVariants as expr
 use Rattle.kt_grammar.specs.Tree.{term_of, terms_of, Called, Parenthesised, Transformed, Element, Member, Pointed, Stepped, Prefixed, Converted, Operated, Chosen, Assigned}
@@ -11,6 +11,7 @@ use Rattle.kt_operands.specs.Views.{environment_of, operand_of}
 use Rattle.kt_operators.specs.Judged.{Judges, JudgesParts}
 use Rattle.kt_operators.proofs.Syntax.{parenthesised-is, transformed-is, element-is, member-is, pointed-is, stepped-is, prefixed-is, converted-is, operated-is, chosen-is, assigned-is, called-is}
 use Rattle.kt_expressions.specs.Arguments.{turned_operands, parts_behind}
+use Rattle.kt_expressions.proofs.Lists.{parts-next}
 use Rattle.kt_expressions.proofs.Terms.{judged_is}
 use Rattle.kt_expressions.proofs.expression.+expressions.Goals as goal
 
@@ -21,7 +22,7 @@ expression-returns-in-Call t c =
     let judged = c.called.ensures (subst (λ (n : ℕ). JudgesParts turned_operands (parts_behind env c.builtin_named-call.result n es) c.arguments-rest.result) c.words_of-from.ensures.words c.arguments-rest.ensures) in
     judged_is c.args.e.now _ _ c.in-Call.is (called-is c.in-Call.name c.in-Call.args) env c.args.to c.called.result
     (subst (λ (b : _). Judges operand_of (called env c.in-Call.name (argument_count (terms_of es)) (first_text (terms_of es)) (first_name (terms_of es)) (parts env (argument_uses b) (terms_of es)) b) c.called.result)
-    (c.builtin_named-call.ensures ∙ ap builtin_named c.as_bytes.ensures) judged)
+    (c.builtin_named-call.ensures ∙ ap builtin_named c.as_bytes.ensures.bytes) judged)
 
 pub expression-returns-in-Paren : goal.expression-returns-in-Paren
 expression-returns-in-Paren t c =
@@ -58,9 +59,9 @@ expression-returns-in-Step t c =
 pub expression-returns-in-Cast : goal.expression-returns-in-Cast
 expression-returns-in-Cast t c =
     let env = environment_of c.args.env.now in
-    let a = c.get-inside.result.now in
-    judged_is c.args.e.now _ _ (c.in-Cast.is ∙ ap (λ x. expr.Cast c.in-Cast.at c.in-Cast.ty x) (sym c.get-inside.ensures)) (converted-is c.in-Cast.at c.in-Cast.ty a) env c.args.to c.converted.result
-    (c.converted.ensures (form env use_as.Value (term_of a)) c.expression-typed_inside.ensures)
+    let a = c.get-source.result.now in
+    judged_is c.args.e.now _ _ (c.in-Cast.is ∙ ap (λ x. expr.Cast c.in-Cast.at c.in-Cast.ty x) (sym c.get-source.ensures)) (converted-is c.in-Cast.at c.in-Cast.ty a) env c.args.to c.converted.result
+    (c.converted.ensures (form env use_as.Value (term_of a)) c.expression-typed_source.ensures)
 
 pub expression-returns-in-Prefix : goal.expression-returns-in-Prefix
 expression-returns-in-Prefix t c =
@@ -92,11 +93,11 @@ expression-returns-in-Binary t c =
 pub expression-returns-in-Assign : goal.expression-returns-in-Assign
 expression-returns-in-Assign t c =
     let env = environment_of c.args.env.now in
-    let a = c.get-place.result.now in
+    let a = c.get-target.result.now in
     let b = c.get-value.result.now in
     let op = c.in-Assign.op in
-    judged_is c.args.e.now _ _ (c.in-Assign.is ∙ ap (λ x. expr.Assign op x c.in-Assign.b) (sym c.get-place.ensures) ∙ ap (λ x. expr.Assign op a x) (sym c.get-value.ensures)) (assigned-is op a b) env c.args.to c.assigned.result
-    (c.assigned.ensures (form env use_as.Value (term_of a)) (form env use_as.Value (term_of b)) c.expression-typed_place.ensures c.expression-typed_value.ensures)
+    judged_is c.args.e.now _ _ (c.in-Assign.is ∙ ap (λ x. expr.Assign op x c.in-Assign.b) (sym c.get-target.ensures) ∙ ap (λ x. expr.Assign op a x) (sym c.get-value.ensures)) (assigned-is op a b) env c.args.to c.assigned.result
+    (c.assigned.ensures (form env use_as.Value (term_of a)) (form env use_as.Value (term_of b)) c.expression-typed_target.ensures c.expression-typed_value.ensures)
 
 pub expression-returns-in-Choice : goal.expression-returns-in-Choice
 expression-returns-in-Choice t c =
@@ -108,3 +109,12 @@ expression-returns-in-Choice t c =
     (c.in-Choice.is ∙ ap (λ x. expr.Choice x c.in-Choice.a c.in-Choice.b) (sym c.get-test.ensures) ∙ ap (λ x. expr.Choice d x c.in-Choice.b) (sym c.get-one.ensures) ∙ ap (λ x. expr.Choice d a x) (sym c.get-other.ensures))
     (chosen-is d a b) env c.args.to c.chosen.result
     (c.chosen.ensures (form env use_as.Value (term_of d)) (form env use_as.Value (term_of a)) (form env use_as.Value (term_of b)) c.expression-typed_test.ensures c.expression-typed_one.ensures c.expression-typed_other.ensures)
+
+pub arguments-loop-i-preserved : goal.arguments-loop-i-preserved
+arguments-loop-i-preserved t c =
+    let env = environment_of c.args.env.now in
+    let es = c.as_slice-items.result.now in
+    let to = c.use_at-to.result in
+    let e = c.index-items-i.result in
+    (omega arith, (omega arith, parts-next env c.args.call es c.loop-i.i (c.loop-i.i - 1) e to c.argument_before.result (omega arith) (omega arith) c.index-items-i.is c.use_at-to.ensures
+    (c.argument_before.ensures (form env to (term_of e)) (parts_behind env c.args.call c.loop-i.i (map term_of es)) c.expression-typed.ensures c.loop-i.invariant.1.1)))
