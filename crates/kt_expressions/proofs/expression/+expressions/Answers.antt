@@ -116,5 +116,5 @@ arguments-loop-i-preserved t c =
     let es = c.as_slice-items.result.now in
     let to = c.use_at-to.result in
     let e = c.index-items-i.result in
-    (omega arith, (omega arith, parts-next env c.args.call es c.loop-i.i (c.loop-i.i - 1) e to c.argument_before.result (omega arith) (omega arith) c.index-items-i.is c.use_at-to.ensures
-    (c.argument_before.ensures (form env to (term_of e)) (parts_behind env c.args.call c.loop-i.i (map term_of es)) c.expression-typed.ensures c.loop-i.invariant.1.1)))
+    (omega arith, omega arith, parts-next env c.args.call es c.loop-i.i (c.loop-i.i - 1) e to c.argument_before-done.result (omega arith) (omega arith) c.index-items-i.is c.use_at-to.ensures
+    (c.argument_before-done.ensures (form env to (term_of e)) (parts_behind env c.args.call c.loop-i.i (map term_of es)) c.expression-typed.ensures c.loop-i.invariant.2))
