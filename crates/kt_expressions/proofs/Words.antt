@@ -1,5 +1,5 @@
 -- Which arguments of a call are judged, and as which parts.
-use Rattle.std.proofs.Common.{◌≡◌, ◌≤◌, ◌==◌, ℕ, zero, suc, Bool, true, false, length, if◌then◌else◌, List, [], ◌∷◌, map, drop, Option, Some, None, refl, sym, ap, ◌∙◌, subst, arith}
+use Rattle.std.proofs.Common.{◌≡◌, ◌≤◌, ◌==◌, ℕ, zero, suc, Bool, true, false, length, if◌then◌else◌, List, [], ◌∷◌, map, drop, Option, Some, None, refl, arith}
 use Rattle.std.specs.Option.{is_some}
 use Rattle.std.proofs.lemmas.Bool.Decides.{Decides-eqb}
 use Rattle.kt_grammar.specs.declared.tree.Expr.{Expr}
@@ -10,10 +10,10 @@ use Rattle.kt_typing.specs.declared.builtin.Builtin.TheVariants as builtin
 use Rattle.kt_typing.specs.declared.standing.Use.{Use}
 use Rattle.kt_typing.specs.declared.standing.Use.TheVariants as use_as
 use Rattle.kt_typing.specs.Environment.{Environment}
-use Rattle.kt_typing.specs.Forms.{Parts, Part}
-use Rattle.kt_typing.specs.Calls.{Row, Asks, Allocates, AllocatesZeros, Prints, Begins, Reaches, AsksFrom, Keeps, row, behind_word, with_entry, leaf, entry}
+use Rattle.kt_typing.specs.Forms.{Part}
+use Rattle.kt_typing.specs.Calls.{Row, Asks, Allocates, AllocatesZeros, Prints, Begins, Reaches, AsksFrom, Keeps, row, behind_word, leaf, entry}
 use Rattle.kt_typing.specs.Terms.{argument_count, first_text, first_name, parts}
-use Rattle.kt_expressions.specs.Arguments.{use_at, takes_word, words, words_of, parts_behind, parts_of_call}
+use Rattle.kt_expressions.specs.Arguments.{use_at, takes_word, words_of, parts_behind, parts_of_call}
 
 -- where a word stands first, what is behind it
 behind : {A : Type 0} (env : Environment) (es : List Term) (o : Option A) → (es ≡ [] → o ≡ None)

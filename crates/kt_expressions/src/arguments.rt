@@ -33,20 +33,8 @@ fn use_of(builtin: Builtin, i: usize) -> Use
     ensures { result ≡ use_at (uses_of builtin) i }
 {
     match builtin {
-        Builtin::Malloc => {
-            if i == 0 {
-                Use::Count
-            } else {
-                Use::Value
-            }
-        }
-        Builtin::Calloc => {
-            if i == 1 {
-                Use::Size
-            } else {
-                Use::Value
-            }
-        }
+        Builtin::Malloc => { if i == 0 { Use::Count } else { Use::Value } }
+        Builtin::Calloc => { if i == 1 { Use::Size } else { Use::Value } }
         Builtin::Free => Use::Value,
         Builtin::GetChar => Use::Value,
         Builtin::PutChar => Use::Value,
@@ -143,7 +131,12 @@ fn part_before(x: Answer, rest: Arguments) -> Arguments
 }
 
 /// An argument, which is used so, before others.
-pub(crate) fn argument_before(env: &Environment<'_>, to: Use, x: Answer, rest: Arguments) -> Arguments
+pub(crate) fn argument_before(
+    env: &Environment<'_>,
+    to: Use,
+    x: Answer,
+    rest: Arguments,
+) -> Arguments
     ensures { (a : Form) (ps : Parts) → Judges operand_of a x → JudgesParts turned_operands ps rest → JudgesParts turned_operands (Part (wrong (environment_of env.now) to) a ps) result }
 {
     part_before(part_of(env, to, x), rest)
@@ -176,7 +169,12 @@ fn begun(env: &Environment<'_>, args: &Items<Expr>, rest: Arguments) -> Argument
 }
 
 /// The arguments of a built-in call that it is judged from, by those that are expressions.
-pub(crate) fn call_parts(env: &Environment<'_>, builtin: Builtin, args: &Items<Expr>, rest: Arguments) -> Arguments
+pub(crate) fn call_parts(
+    env: &Environment<'_>,
+    builtin: Builtin,
+    args: &Items<Expr>,
+    rest: Arguments,
+) -> Arguments
     ensures { JudgesParts turned_operands (parts_behind (environment_of env.now) (Some builtin) (words_of (Some builtin) (terms_of (map term_of args.now))) (map term_of args.now)) rest → JudgesParts turned_operands (parts_of_call (environment_of env.now) builtin (terms_of (map term_of args.now))) result }
 {
     match builtin {

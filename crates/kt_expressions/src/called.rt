@@ -28,17 +28,37 @@ fn name_called(env: &Environment<'_>, name: &Name, args: &Items<Expr>, rest: Arg
 }
 
 // A built-in call.
-fn word_called(env: &Environment<'_>, name: &Name, builtin: Builtin, args: &Items<Expr>, rest: Arguments) -> Answer
+fn word_called(
+    env: &Environment<'_>,
+    name: &Name,
+    builtin: Builtin,
+    args: &Items<Expr>,
+    rest: Arguments,
+) -> Answer
     ensures { JudgesParts turned_operands (parts_behind (environment_of env.now) (Some builtin) (words_of (Some builtin) (terms_of (map term_of args.now))) (map term_of args.now)) rest → Judges operand_of (called (environment_of env.now) name.now (argument_count (terms_of (map term_of args.now))) (first_text (terms_of (map term_of args.now))) (first_name (terms_of (map term_of args.now))) (parts (environment_of env.now) (argument_uses (Some builtin)) (terms_of (map term_of args.now))) (Some builtin)) result }
 {
     let judged = in_order(call_parts(env, builtin, args, rest));
     let text = first_text(args);
     let first = first_name(args);
-    builtin_called(env, name.at, args.as_slice().len(), text, first, builtin, judged)
+    builtin_called(
+        env,
+        name.at,
+        args.as_slice().len(),
+        text,
+        first,
+        builtin,
+        judged,
+    )
 }
 
 /// A call of what a name stands for, or a built-in call.
-pub(crate) fn called(env: &Environment<'_>, name: &Name, call: Option<Builtin>, args: &Items<Expr>, rest: Arguments) -> Answer
+pub(crate) fn called(
+    env: &Environment<'_>,
+    name: &Name,
+    call: Option<Builtin>,
+    args: &Items<Expr>,
+    rest: Arguments,
+) -> Answer
     ensures { JudgesParts turned_operands (parts_behind (environment_of env.now) call (words_of call (terms_of (map term_of args.now))) (map term_of args.now)) rest → Judges operand_of (called (environment_of env.now) name.now (argument_count (terms_of (map term_of args.now))) (first_text (terms_of (map term_of args.now))) (first_name (terms_of (map term_of args.now))) (parts (environment_of env.now) (argument_uses call) (terms_of (map term_of args.now))) call) result }
 {
     match call {

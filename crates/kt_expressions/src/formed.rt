@@ -12,7 +12,9 @@ ghost use Rattle.kt_expressions.specs.Formed.{OfOne, OfTwo, OfThree};
 
 use crate::part::part_of;
 use crate::spelled::{first_token, is_allocation};
-use kt_grammar::{AssignOperator, BinaryOperator, Expr, Name, PrefixOperator, StepOperator, TypeName};
+use kt_grammar::{
+    AssignOperator, BinaryOperator, Expr, Name, PrefixOperator, StepOperator, TypeName,
+};
 use kt_operands::environment::Environment;
 use kt_operators::constant::type_named;
 use kt_operators::forms;
@@ -97,7 +99,13 @@ pub(crate) fn prefixed(env: &Environment<'_>, at: u32, op: PrefixOperator, x: An
 }
 
 /// A cast.
-pub(crate) fn converted(env: &Environment<'_>, at: u32, name: &TypeName, a: &Expr, x: Answer) -> Answer
+pub(crate) fn converted(
+    env: &Environment<'_>,
+    at: u32,
+    name: &TypeName,
+    a: &Expr,
+    x: Answer,
+) -> Answer
     ensures { OfOne (environment_of env.now) at use_as.Value (cast (environment_of env.now) at (is_allocation (term_of a.now)) (type_named (environment_of env.now) name.now)) x result }
 {
     let allocates = is_allocation(a);
@@ -107,7 +115,14 @@ pub(crate) fn converted(env: &Environment<'_>, at: u32, name: &TypeName, a: &Exp
 }
 
 /// A binary operator, whose operands are used so.
-pub(crate) fn operated(env: &Environment<'_>, to: Use, op: BinaryOperator, a: &Expr, x: Answer, y: Answer) -> Answer
+pub(crate) fn operated(
+    env: &Environment<'_>,
+    to: Use,
+    op: BinaryOperator,
+    a: &Expr,
+    x: Answer,
+    y: Answer,
+) -> Answer
     ensures { OfTwo (environment_of env.now) (first_token (term_of a.now)) to to (operator (environment_of env.now) (first_token (term_of a.now)) op) x y result }
 {
     let at = first_token(a);
@@ -117,7 +132,13 @@ pub(crate) fn operated(env: &Environment<'_>, to: Use, op: BinaryOperator, a: &E
 }
 
 /// An assignment.
-pub(crate) fn assigned(env: &Environment<'_>, op: AssignOperator, a: &Expr, x: Answer, y: Answer) -> Answer
+pub(crate) fn assigned(
+    env: &Environment<'_>,
+    op: AssignOperator,
+    a: &Expr,
+    x: Answer,
+    y: Answer,
+) -> Answer
     ensures { OfTwo (environment_of env.now) (first_token (term_of a.now)) use_as.Value use_as.Value (assignment (environment_of env.now) (first_token (term_of a.now)) op) x y result }
 {
     let at = first_token(a);

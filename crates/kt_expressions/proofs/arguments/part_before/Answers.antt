@@ -1,11 +1,3 @@
-use Rattle.std.proofs.Common.{◌∷◌, Err, sym, subst}
-use Rattle.kt_typing.specs.Forms.{Part}
-use Rattle.kt_operands.specs.declared.operand.Operand.{Operand as OperandCode}
-use Rattle.std.specs.Global.{Vec}
-use Rattle.kt_operands.specs.Views.{operand_of}
-use Rattle.kt_operators.specs.Judged.{JudgesPart, JudgesParts, both_of}
-use Rattle.kt_operators.proofs.Parts.{more-parts}
-use Rattle.kt_expressions.specs.Arguments.{turned_operands}
 use Rattle.kt_expressions.proofs.Lists.{stops-parts, goes-parts}
 use Rattle.kt_expressions.proofs.arguments.part_before.Goals as goal
 

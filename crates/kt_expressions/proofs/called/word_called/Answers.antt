@@ -1,12 +1,10 @@
-use Rattle.std.proofs.Common.{◌≡◌, ℕ, List, Option, Bor, [], map, length, sym, ap, ◌∙◌, subst}
+use Rattle.std.proofs.Common.{◌≡◌, ℕ, List, Bor, map, length, sym, ap, ◌∙◌}
 use Rattle.std.specs.Option.{option_map}
 use Rattle.kt_grammar.specs.declared.tree.Name.{Name}
 use Rattle.kt_grammar.specs.Tree.{term_of, terms_of}
-use Rattle.kt_typing.specs.Calls.{row, row_called, uses_of}
+use Rattle.kt_typing.specs.Calls.{uses_of}
 use Rattle.kt_typing.specs.Terms.{argument_count, first_text, first_name, parts}
-use Rattle.kt_operands.specs.Views.{environment_of, operand_of}
-use Rattle.kt_operators.specs.Judged.{Judges, JudgesParts}
-use Rattle.kt_calls.specs.Arguments.{operands_of, row_parts}
+use Rattle.kt_operands.specs.Views.{environment_of}
 use Rattle.kt_expressions.specs.Arguments.{parts_of_call}
 use Rattle.kt_expressions.proofs.Lists.{counted, builtin-judged}
 use Rattle.kt_expressions.proofs.called.word_called.Goals as goal

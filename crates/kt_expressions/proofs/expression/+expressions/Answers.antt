@@ -1,12 +1,10 @@
-use Rattle.std.proofs.Common.{◌≡◌, ◌-◌, ℕ, List, map, length, sym, ap, ◌∙◌, subst, arith}
-use Rattle.kt_grammar.specs.declared.tree.Expr.{Expr}
+use Rattle.std.proofs.Common.{◌-◌, ℕ, map, sym, ap, ◌∙◌, subst, arith}
 use Rattle.kt_grammar.specs.declared.tree.Expr.TheVariants as expr
-use Rattle.kt_grammar.specs.Tree.{term_of, terms_of, Called, Parenthesised, Transformed, Element, Member, Pointed, Stepped, Prefixed, Converted, Operated, Chosen, Assigned}
-use Rattle.kt_typing.specs.declared.builtin.Builtin.{Builtin}
+use Rattle.kt_grammar.specs.Tree.{term_of, terms_of}
 use Rattle.kt_typing.specs.declared.standing.Use.TheVariants as use_as
 use Rattle.kt_typing.specs.Calls.{builtin_named}
-use Rattle.kt_typing.specs.Rules.{operator, unary}
-use Rattle.kt_typing.specs.Terms.{argument_count, argument_uses, called, first_name, first_text, first_token, form, of_one, of_two, operand_use, parts}
+use Rattle.kt_typing.specs.Rules.{operator}
+use Rattle.kt_typing.specs.Terms.{argument_count, argument_uses, called, first_name, first_text, first_token, form, of_two, operand_use, parts}
 use Rattle.kt_operands.specs.Views.{environment_of, operand_of}
 use Rattle.kt_operators.specs.Judged.{Judges, JudgesParts}
 use Rattle.kt_operators.proofs.Syntax.{parenthesised-is, transformed-is, element-is, member-is, pointed-is, stepped-is, prefixed-is, converted-is, operated-is, chosen-is, assigned-is, called-is}
@@ -115,6 +113,9 @@ arguments-loop-i-preserved t c =
     let env = environment_of c.args.env.now in
     let es = c.as_slice-items.result.now in
     let to = c.use_at-to.result in
-    let e = c.index-items-i.result in
-    (omega arith, omega arith, parts-next env c.args.call es c.loop-i.i (c.loop-i.i - 1) e to c.argument_before-done.result (omega arith) (omega arith) c.index-items-i.is c.use_at-to.ensures
-    (c.argument_before-done.ensures (form env to (term_of e)) (parts_behind env c.args.call c.loop-i.i (map term_of es)) c.expression-typed.ensures c.loop-i.invariant.2))
+    let e = c.index-items-i.result in (
+      omega arith,
+      omega arith,
+      parts-next env c.args.call es c.loop-i.i (c.loop-i.i - 1) e to c.argument_before-done.result (omega arith) (omega arith) c.index-items-i.is c.use_at-to.ensures
+          (c.argument_before-done.ensures (form env to (term_of e)) (parts_behind env c.args.call c.loop-i.i (map term_of es)) c.expression-typed.ensures c.loop-i.invariant.2),
+    )

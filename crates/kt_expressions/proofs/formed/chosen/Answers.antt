@@ -1,5 +1,4 @@
 use Rattle.std.proofs.Common.{subst}
-use Rattle.kt_grammar.specs.Tree.{term_of}
 use Rattle.kt_typing.specs.declared.standing.Use.TheVariants as use_as
 use Rattle.kt_typing.specs.Rules.{wrong, choice}
 use Rattle.kt_typing.specs.Terms.{of_three}

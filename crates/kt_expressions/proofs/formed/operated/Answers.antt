@@ -1,6 +1,4 @@
 use Rattle.std.proofs.Common.{subst}
-use Rattle.kt_grammar.specs.Tree.{term_of}
-use Rattle.kt_typing.specs.declared.standing.Use.TheVariants as use_as
 use Rattle.kt_typing.specs.Rules.{wrong, operator}
 use Rattle.kt_typing.specs.Terms.{of_two}
 use Rattle.kt_operands.specs.Views.{environment_of, operand_of}

@@ -1,9 +1,8 @@
 use Rattle.std.proofs.Common.{Ok, Err, refl, subst}
 use Rattle.kt_grammar.specs.Tree.{term_of}
 use Rattle.kt_typing.specs.declared.standing.Use.TheVariants as use_as
-use Rattle.kt_typing.specs.Operands.{scalar, valued}
-use Rattle.kt_typing.specs.Rules.{wrong, with_value, convert}
-use Rattle.kt_typing.specs.Terms.{form, of_one, effect_of, tested}
+use Rattle.kt_typing.specs.Rules.{wrong}
+use Rattle.kt_typing.specs.Terms.{form, of_one, effect_of}
 use Rattle.kt_operands.specs.Views.{environment_of, operand_of}
 use Rattle.kt_operators.specs.Judged.{Judges}
 use Rattle.kt_operators.proofs.Parts.{one_stops, one_goes}
