@@ -1,6 +1,6 @@
 //! Texts, each with the type that it has (its place in the table of types) or its first fault and where that is.
 
-use crate::tables::{Tables, tables};
+use crate::tables::{Tables, small_file};
 use crate::told::{Role, told};
 use kt_operands::meaning::Dialect;
 use std::alloc::Global;
@@ -198,11 +198,17 @@ fn differing(
 
 #[test]
 fn expressions_are_typed(rt: HostRuntime) -> Result<(), Fail> {
-    let given = tables(rt.alloc())?;
+    let given = small_file(rt.alloc())?;
     for table in [OPERATORS, CALLS, OWN, TYPED] {
-        assert_eq!(rt; differing(rt.alloc(), &given, Dialect::C, Role::Statement, table)?.as_str(), "");
+        assert_eq!(rt;
+            differing(rt.alloc(), &given, Dialect::C, Role::Statement, table)?.as_str(),
+            ""
+        );
     }
-    assert_eq!(rt; differing(rt.alloc(), &given, Dialect::Rules, Role::Statement, RULES)?.as_str(), "");
+    assert_eq!(rt;
+        differing(rt.alloc(), &given, Dialect::Rules, Role::Statement, RULES)?.as_str(),
+        ""
+    );
     Ok(())
 }
 
@@ -228,8 +234,14 @@ x => bad_type 99
 
 #[test]
 fn expressions_stand_in_statements(rt: HostRuntime) -> Result<(), Fail> {
-    let given = tables(rt.alloc())?;
-    assert_eq!(rt; differing(rt.alloc(), &given, Dialect::C, Role::Condition, CONDITIONS)?.as_str(), "");
-    assert_eq!(rt; differing(rt.alloc(), &given, Dialect::C, Role::Pointer, POINTERS)?.as_str(), "");
+    let given = small_file(rt.alloc())?;
+    assert_eq!(rt;
+        differing(rt.alloc(), &given, Dialect::C, Role::Condition, CONDITIONS)?.as_str(),
+        ""
+    );
+    assert_eq!(rt;
+        differing(rt.alloc(), &given, Dialect::C, Role::Pointer, POINTERS)?.as_str(),
+        ""
+    );
     Ok(())
 }

@@ -112,7 +112,10 @@ fn names(alloc: Global) -> Result<IndexMap<Vec<u8>, Meaning>, Fail> {
     let mut names = IndexMap::new(alloc);
     for (word, meaning) in [
         ("s", Meaning::Fixed(Standing::Whole, 7, Constant::Global(0))),
-        ("lk", Meaning::Fixed(Standing::Whole, 8, Constant::Global(1))),
+        (
+            "lk",
+            Meaning::Fixed(Standing::Whole, 8, Constant::Global(1)),
+        ),
         ("w", Meaning::Fixed(Standing::Cell, 11, Constant::Global(2))),
         ("n", Meaning::Fixed(Standing::Cell, 5, Constant::Global(3))),
         ("q", Meaning::Fixed(Standing::Cell, 12, Constant::Global(4))),
@@ -153,7 +156,7 @@ fn functions(alloc: Global) -> Result<Vec<Head>, Fail> {
 }
 
 /// What is kept of the names of the file.
-pub(crate) fn tables(alloc: Global) -> Result<Tables, Fail> {
+pub(crate) fn small_file(alloc: Global) -> Result<Tables, Fail> {
     let mut literals = IndexMap::new(alloc);
     literals.insert(0, 0)?;
     Ok(Tables {
