@@ -4,7 +4,7 @@ use Rattle.std.specs.List.{AllByRecursion}
 use Rattle.kt_grammar.specs.declared.operator.BinaryOperator.TheVariants as binary
 use Rattle.kt_grammar.specs.declared.tree.Name.{Name}
 use Rattle.kt_grammar.specs.declared.tree.TypeName.{TypeName}
-use Rattle.kt_grammar.specs.Tree.{Term, Constant, Character, Text, Null as NullTerm, Eof, Named, Called, Parenthesised, SizeOf, RuleValue, OldSymbol, Transformed, Element, Member, Pointed, Stepped, Prefixed, Converted, Operated, Chosen, Assigned, Terms, Nothing, More}
+use Rattle.kt_grammar.specs.Tree.{Term, Constant, Character, Text, Null as NullTerm, Eof, Named, Called, Parenthesised, SizeOf, RuleValue, OldSymbol, Transformed, NewObject, Element, Member, Pointed, Stepped, Prefixed, Converted, Operated, Chosen, Assigned, Terms, Nothing, More}
 use Rattle.kt_tree.specs.Names.{is_point_name}
 use Rattle.kt_tree.specs.Tree.{More as MoreExpressions}
 use Rattle.kt_names.specs.declared.ctype.CType.{CType}
@@ -296,6 +296,7 @@ module _ (env : Environment) where
     term-words (SizeOf at t) x e = tt
     term-words (RuleValue at w) x e = tt
     term-words (OldSymbol at n) x e = tt
+    term-words (NewObject at f) x e = tt
     term-words (Transformed at a) x e = absurd (not-ok _ x e)
     term-words (Element a i) x e = two-words a i (λ x. element env (first_token a) (first_token i) x.0 x.1) (term-words a) (term-words i) x e
     term-words (Member a f) x e = one-keeps a (λ x. member env (first_token a) x f) (term-words a) x e

@@ -2,3 +2,4 @@ pub mod CodeSettling
 pub mod Fitting
 pub mod Rooms
 pub mod Turned
+mod Reversed

@@ -5,6 +5,7 @@
 #![tactic(auto)]
 
 mod code;
+mod equality;
 mod frame;
 mod instr;
 mod laws;

@@ -7,8 +7,8 @@ use Rattle.kt_code.specs.Code.{Code}
 use Rattle.kt_code.specs.Machine.{step}
 use Rattle.kt_code.specs.Settling.{settle, head_of}
 use Rattle.kt_code.specs.declared.private.Private.{Private}
-use Rattle.kt_exec.specs.Renaming.{Pairs, AreOneToOne, IsOld, PrivateIn, ReplyIn, rename_head, rename_private, rename_reply, renamed}
-use Rattle.kt_exec.proofs.RenamedNames.{bound, spread, spread-keeps, spread-old, spread-same, private-only, head-only, private-in, reply-in}
+use Rattle.kt_exec.specs.Renaming.{Pairs, AreOneToOne, IsOld, PrivateIn, ReplyIn, HeadIn, rename_head, rename_private, rename_reply, renamed}
+use Rattle.kt_exec.proofs.RenamedNames.{bound, spread, spread-keeps, spread-old, spread-same, spread-tells, private-only, head-only, private-in, reply-in, private-tells, head-tells}
 use Rattle.kt_exec.proofs.RenamedOperations.{Keeps}
 use Rattle.kt_exec.proofs.RenamedSteps.{settle-renamed, head-renamed, reply-renamed}
 
@@ -98,3 +98,33 @@ renamed-reply ps h c p r old told =
     let k = keeps ps h (bound ps) (low ps) in
     let l = keeps ps h (suc (bound ps)) (lower ps) in
     reply-with ps (bound ps) k l c (settle c p) r told (same-settled ps (bound ps) k l c p old) (other-settled ps (bound ps) k l c p old)
+
+-- ---- no other names
+
+module _ (ps : Pairs) (h : AreOneToOne ps) (c : Code) (p : Private) (old : PrivateIn (IsOld ps) p) where
+  abbrev k : Keeps (spread ps (bound ps))
+  k = keeps ps h (bound ps) (low ps)
+
+  abbrev l : Keeps (spread ps (suc (bound ps)))
+  l = keeps ps h (suc (bound ps)) (lower ps)
+
+  -- both renamings do the same to the settled thread
+  settled-alike : rename_private (spread ps (bound ps)) (settle c p) ≡ rename_private (spread ps (suc (bound ps))) (settle c p)
+  settled-alike = same-settled ps (bound ps) k l c p old ∙ sym (other-settled ps (bound ps) k l c p old)
+
+  pub settles-among : PrivateIn (IsOld ps) (settle c p)
+  settles-among =
+      private-tells (IsOld ps) (spread ps (bound ps)) (spread ps (suc (bound ps))) (spread-tells ps (bound ps)) (settle c p) settled-alike
+
+  pub stands-among : HeadIn (IsOld ps) (head_of (step c (settle c p)))
+  stands-among =
+      head-tells (IsOld ps) (spread ps (bound ps)) (spread ps (suc (bound ps))) (spread-tells ps (bound ps)) (head_of (step c (settle c p)))
+      (sym (head-by ps (bound ps) k c (settle c p) (same-settled ps (bound ps) k l c p old))
+      ∙ head-by ps (suc (bound ps)) l c (settle c p) (other-settled ps (bound ps) k l c p old))
+
+  pub replies-among : (r : Reply) → ReplyIn (IsOld ps) r → PrivateIn (IsOld ps) (after_reply (settle c p) (step c (settle c p)) r)
+  replies-among r told =
+      private-tells (IsOld ps) (spread ps (bound ps)) (spread ps (suc (bound ps))) (spread-tells ps (bound ps))
+      (after_reply (settle c p) (step c (settle c p)) r)
+      (sym (reply-by ps (bound ps) k c (settle c p) r told (same-settled ps (bound ps) k l c p old))
+      ∙ reply-by ps (suc (bound ps)) l c (settle c p) r told (other-settled ps (bound ps) k l c p old))

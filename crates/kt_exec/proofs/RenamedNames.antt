@@ -19,7 +19,7 @@ use Rattle.kt_code.specs.declared.frame.Frame.{Frame}
 use Rattle.kt_code.specs.declared.private.Private.{Private}
 use Rattle.kt_code.specs.declared.private.Head.{Head}
 use Rattle.kt_code.specs.declared.private.Head.TheVariants as head
-use Rattle.kt_exec.specs.Renaming.{rename_name, rename_value, rename_values, rename_frame, rename_frames, rename_kept_local, rename_kept, rename_private, rename_piece, rename_pieces, rename_act, rename_reply, rename_head, Pairs, renamed, IsOld, IsNew, AreOneToOne, NameIn, ValueIn, ValuesIn, FramesIn, KeptIn, PrivateIn, ReplyIn}
+use Rattle.kt_exec.specs.Renaming.{rename_name, rename_value, rename_values, rename_frame, rename_frames, rename_kept_local, rename_kept, rename_private, rename_piece, rename_pieces, rename_act, rename_reply, rename_head, Pairs, renamed, IsOld, IsNew, AreOneToOne, NameIn, ValueIn, ValuesIn, FramesIn, KeptIn, PrivateIn, ReplyIn, PieceIn, PiecesIn, ActIn, HeadIn}
 use Rattle.kt_exec.proofs.RenamedOperations.{Keeps}
 
 -- ---- a renaming of all names
@@ -248,3 +248,102 @@ pub reply-in : (P : ℕ → Type 0) (f g : ℕ → ℕ) → SameOn P f g → (r 
 reply-in P f g same Done h = refl
 reply-in P f g same (Got v) h = ap Got (value-in P f g same v h)
 reply-in P f g same (Trapped t) h = refl
+
+-- ---- two renamings that do the same to certain names alone tell that all names are among these
+
+abbrev pub Tells : (ℕ → Type 0) → (ℕ → ℕ) → (ℕ → ℕ) → Type 0
+Tells P f g = (a : ℕ) → f a ≡ g a → P a
+
+choice-tells : (b : Bool) (p : ℕ × ℕ) (ps : Pairs) (a x y : ℕ) → (b ≡ true → p.0 ≡ a) → (x ≡ y → IsOld ps a) →
+    (if b then p.1 else x) ≡ (if b then p.1 else y) → IsOld (p ∷ ps) a
+choice-tells true p ps a x y f g e = inl (f refl)
+choice-tells false p ps a x y f g e = inr (g e)
+
+-- only an old name goes up alike by two numbers
+pub spread-tells : (ps : Pairs) (n : ℕ) → Tells (IsOld ps) (spread ps n) (spread ps (suc n))
+spread-tells [] n a e = absurd (omega arith)
+spread-tells (p ∷ ps) n a e =
+    choice-tells (p.0 == a) p ps a (spread ps n a) (spread ps (suc n) a) (eqb-true (p.0) a) (spread-tells ps n a) e
+
+module _ (P : ℕ → Type 0) (f g : ℕ → ℕ) (tells : Tells P f g) where
+  name-tells : (n : Name) → rename_name f n ≡ rename_name g n → NameIn P n
+  name-tells (Glob i) e = tt
+  name-tells (Lit v i) e = tt
+  name-tells (Heap a) e = let same : f a ≡ g a = cc in tells a same
+
+  value-tells : (v : Value) → rename_value f v ≡ rename_value g v → ValueIn P v
+  value-tells (Num n) e = tt
+  value-tells Null e = tt
+  value-tells (Ptr n k) e = let same : rename_name f n ≡ rename_name g n = cc in name-tells n same
+  value-tells Free e = tt
+  value-tells (Held thread) e = tt
+  value-tells Undef e = tt
+
+  values-tell : (vs : List Value) → rename_values f vs ≡ rename_values g vs → ValuesIn P vs
+  values-tell [] e = tt
+  values-tell (v ∷ vs) e =
+      let first : rename_value f v ≡ rename_value g v = cc in
+      let others : rename_values f vs ≡ rename_values g vs = cc in
+      (value-tells v first, values-tell vs others)
+
+  frames-tell : (xs : List Frame) → rename_frames f xs ≡ rename_frames g xs → FramesIn P xs
+  frames-tell [] e = tt
+  frames-tell (x ∷ xs) e =
+      let first : rename_frame f x ≡ rename_frame g x = cc in
+      let others : rename_frames f xs ≡ rename_frames g xs = cc in
+      (values-tell x.locals (ap (λ (y : Frame). y.locals) first), frames-tell xs others)
+
+  kept-tells : (ks : List KeptLocal) → rename_kept f ks ≡ rename_kept g ks → KeptIn P ks
+  kept-tells [] e = tt
+  kept-tells (k ∷ ks) e =
+      let first : rename_kept_local f k ≡ rename_kept_local g k = cc in
+      let others : rename_kept f ks ≡ rename_kept g ks = cc in
+      (value-tells k.value (ap (λ (y : KeptLocal). y.value) first), kept-tells ks others)
+
+  pub private-tells : (p : Private) → rename_private f p ≡ rename_private g p → PrivateIn P p
+  private-tells p e =
+      (frames-tell p.frames (ap (λ (q : Private). q.frames) e), values-tell p.operands (ap (λ (q : Private). q.operands) e),
+      kept-tells p.locals (ap (λ (q : Private). q.locals) e))
+
+  piece-tells : (x : Piece) → rename_piece f x ≡ rename_piece g x → PieceIn P x
+  piece-tells (piece.Bytes bytes) e = tt
+  piece-tells (piece.Number n) e = tt
+  piece-tells (piece.Byte b) e = tt
+  piece-tells (piece.TextAt v) e = let same : rename_value f v ≡ rename_value g v = cc in value-tells v same
+
+  pieces-tell : (xs : List Piece) → rename_pieces f xs ≡ rename_pieces g xs → PiecesIn P xs
+  pieces-tell [] e = tt
+  pieces-tell (x ∷ xs) e =
+      let first : rename_piece f x ≡ rename_piece g x = cc in
+      let others : rename_pieces f xs ≡ rename_pieces g xs = cc in
+      (piece-tells x first, pieces-tell xs others)
+
+  act-tells : (a : Act) → rename_act f a ≡ rename_act g a → ActIn P a
+  act-tells (act.Load p t) e = let same : rename_value f p ≡ rename_value g p = cc in value-tells p same
+  act-tells (act.Store p t v) e =
+      let same : rename_value f p ≡ rename_value g p = cc in
+      let stored : rename_value f v ≡ rename_value g v = cc in
+      (value-tells p same, value-tells v stored)
+  act-tells (act.Release p) e = let same : rename_value f p ≡ rename_value g p = cc in value-tells p same
+  act-tells (act.Lock p) e = let same : rename_value f p ≡ rename_value g p = cc in value-tells p same
+  act-tells (act.Unlock p) e = let same : rename_value f p ≡ rename_value g p = cc in value-tells p same
+  act-tells (act.InitMutex p) e = let same : rename_value f p ≡ rename_value g p = cc in value-tells p same
+  act-tells (act.Wait p) e = let same : rename_value f p ≡ rename_value g p = cc in value-tells p same
+  act-tells (act.Signal p all) e = let same : rename_value f p ≡ rename_value g p = cc in value-tells p same
+  act-tells (act.Print ps) e = let same : rename_pieces f ps ≡ rename_pieces g ps = cc in pieces-tell ps same
+  act-tells (act.Create i v) e = let same : rename_value f v ≡ rename_value g v = cc in value-tells v same
+  act-tells act.Tick e = tt
+  act-tells (act.Allocate i n zeros) e = tt
+  act-tells act.GetChar e = tt
+  act-tells (act.Join n) e = tt
+  act-tells (act.Point n) e = tt
+  act-tells (act.MigrateLocal i n) e = tt
+  act-tells act.Automigrate e = tt
+  act-tells (act.UpdatingTest n) e = tt
+  act-tells act.ThreadEnd e = tt
+  act-tells (act.MainReturn n) e = tt
+
+  pub head-tells : (o : Option Head) → rename_head f o ≡ rename_head g o → HeadIn P o
+  head-tells None e = tt
+  head-tells (Some (head.Act a)) e = let same : rename_act f a ≡ rename_act g a = cc in act-tells a same
+  head-tells (Some (head.Trap t)) e = tt

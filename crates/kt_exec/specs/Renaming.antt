@@ -11,6 +11,10 @@ use Rattle.kt_mem.specs.declared.steps.Piece.TheVariants as piece
 use Rattle.kt_mem.specs.declared.steps.Reply.{Reply}
 use Rattle.kt_mem.specs.declared.steps.Reply.TheVariants.{Done, Got, Trapped}
 use Rattle.kt_mem.specs.declared.thread.KeptLocal.{KeptLocal}
+use Rattle.kt_meaning.specs.Steps.{after_reply}
+use Rattle.kt_code.specs.Code.{Code}
+use Rattle.kt_code.specs.Machine.{step}
+use Rattle.kt_code.specs.Settling.{head_of, settle}
 use Rattle.kt_code.specs.declared.frame.Frame.{Frame}
 use Rattle.kt_code.specs.declared.private.Private.{Private}
 use Rattle.kt_code.specs.declared.private.Head.{Head}
@@ -151,3 +155,66 @@ abbrev pub ReplyIn : (ℕ → Type 0) → Reply → Type 0
 ReplyIn P Done = Unit {0}
 ReplyIn P (Got v) = ValueIn P v
 ReplyIn P (Trapped t) = Unit {0}
+
+abbrev pub PieceIn : (ℕ → Type 0) → Piece → Type 0
+PieceIn P (piece.TextAt v) = ValueIn P v
+PieceIn P _ = Unit {0}
+
+abbrev pub PiecesIn : (ℕ → Type 0) → List Piece → Type 0
+PiecesIn P [] = Unit {0}
+PiecesIn P (x ∷ xs) = PieceIn P x × PiecesIn P xs
+
+abbrev pub ActIn : (ℕ → Type 0) → Act → Type 0
+ActIn P (act.Load p t) = ValueIn P p
+ActIn P (act.Store p t v) = ValueIn P p × ValueIn P v
+ActIn P (act.Release p) = ValueIn P p
+ActIn P (act.Lock p) = ValueIn P p
+ActIn P (act.Unlock p) = ValueIn P p
+ActIn P (act.InitMutex p) = ValueIn P p
+ActIn P (act.Wait p) = ValueIn P p
+ActIn P (act.Signal p all) = ValueIn P p
+ActIn P (act.Print ps) = PiecesIn P ps
+ActIn P (act.Create g v) = ValueIn P v
+ActIn P _ = Unit {0}
+
+abbrev pub HeadIn : (ℕ → Type 0) → Option Head → Type 0
+HeadIn P (Some (head.Act a)) = ActIn P a
+HeadIn P _ = Unit {0}
+
+-- ---- what a renamed thread does
+
+-- a renamed thread settles to the renamed settled thread
+abbrev pub SettlesRenamed : Code → Type 0
+SettlesRenamed c =
+    (ps : Pairs) (p : Private) → AreOneToOne ps → PrivateIn (IsOld ps) p
+    → settle c (rename_private (renamed ps) p) ≡ rename_private (renamed ps) (settle c p)
+
+-- with the renamed act, or the same trap
+abbrev pub StandsRenamed : Code → Type 0
+StandsRenamed c =
+    (ps : Pairs) (p : Private) → AreOneToOne ps → PrivateIn (IsOld ps) p
+    → head_of (step c (rename_private (renamed ps) (settle c p))) ≡ rename_head (renamed ps) (head_of (step c (settle c p)))
+
+-- and after the renamed reply it is the renamed thread that had the reply
+abbrev pub RepliesRenamed : Code → Type 0
+RepliesRenamed c =
+    (ps : Pairs) (p : Private) (r : Reply) → AreOneToOne ps → PrivateIn (IsOld ps) p → ReplyIn (IsOld ps) r
+    → after_reply (rename_private (renamed ps) (settle c p)) (step c (rename_private (renamed ps) (settle c p))) (rename_reply (renamed ps) r)
+    ≡ rename_private (renamed ps) (after_reply (settle c p) (step c (settle c p)) r)
+
+-- ---- a thread names what it was given
+
+-- a thread whose heap names are old ones settles to such a thread
+abbrev pub SettlesAmong : Code → Type 0
+SettlesAmong c = (ps : Pairs) (p : Private) → AreOneToOne ps → PrivateIn (IsOld ps) p → PrivateIn (IsOld ps) (settle c p)
+
+-- its act names old ones
+abbrev pub StandsAmong : Code → Type 0
+StandsAmong c =
+    (ps : Pairs) (p : Private) → AreOneToOne ps → PrivateIn (IsOld ps) p → HeadIn (IsOld ps) (head_of (step c (settle c p)))
+
+-- and so it is after a reply that names an old one
+abbrev pub RepliesAmong : Code → Type 0
+RepliesAmong c =
+    (ps : Pairs) (p : Private) (r : Reply) → AreOneToOne ps → PrivateIn (IsOld ps) p → ReplyIn (IsOld ps) r
+    → PrivateIn (IsOld ps) (after_reply (settle c p) (step c (settle c p)) r)

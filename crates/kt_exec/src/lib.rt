@@ -12,7 +12,6 @@ mod jumps;
 mod laws;
 mod locals;
 mod operations;
-mod pairs;
 mod replies;
 mod request_values;
 mod requests;
@@ -22,7 +21,6 @@ mod ticks;
 mod went;
 
 pub use laws::rename_law;
-pub use pairs::NamePairs;
 pub use replies::answer;
 pub use settling::settle;
 pub use ticks::{Loan, stretch};

@@ -21,17 +21,19 @@ use Rattle.kt_grammar.specs.declared.operator.BinaryOperator.{BinaryOperator}
 use Rattle.kt_grammar.specs.declared.operator.AssignOperator.{AssignOperator}
 use Rattle.kt_grammar.specs.declared.tree.Name.{Name}
 use Rattle.kt_grammar.specs.declared.tree.TypeName.{TypeName}
-use Rattle.kt_grammar.specs.Tree.{Term, Terms, Nothing, More, Constant, Character, Text, Null, Eof, Named, Called, Parenthesised, SizeOf, RuleValue, OldSymbol, Transformed, Element, Member, Pointed, Stepped, Prefixed, Converted, Operated, Chosen, Assigned, terms_of}
+use Rattle.kt_grammar.specs.declared.tree.Fresh.{Fresh}
+use Rattle.kt_grammar.specs.Tree.{Term, Terms, Nothing, More, Constant, Character, Text, Null, Eof, Named, Called, Parenthesised, SizeOf, RuleValue, OldSymbol, Transformed, NewObject, Element, Member, Pointed, Stepped, Prefixed, Converted, Operated, Chosen, Assigned, terms_of}
 use Rattle.kt_grammar.specs.Signs.{is_c, precedence, prefix_sign, has_prefix, step_sign, step_of, binary_sign, assign_sign}
 use Rattle.kt_grammar.specs.Marks.{Mark, Joined, symbols_of, sign}
 use Rattle.kt_grammar.specs.Spelling.{level, links, links_at, is_value, spells, arguments, between, spells_type}
 use Rattle.kt_grammar.specs.Cursor.{◌>>=◌, Outcome, begins_sign, behind, name_at, listed_at}
-use Rattle.kt_grammar.specs.Reading.{Readers, begins_base, begins_expr, begins_postfix, type_at, between_at, deep, deep_level, more_at, index_at, stepped_at, postfix_at, arguments_at, named_at, old_symbol_at, transform_at, rule_at, primary_at, parenthesis_at, prefixed_at, unary_at, assign_here, chain_at, choice_at, assignment_at, tail_at, climb_at, level_at, deeper, expr_at}
+use Rattle.kt_grammar.specs.Reading.{Readers, begins_base, begins_expr, begins_postfix, type_at, between_at, deep, deep_level, more_at, index_at, stepped_at, postfix_at, arguments_at, named_at, old_symbol_at, fresh_at, new_object_at, transform_at, rule_at, primary_at, parenthesis_at, prefixed_at, unary_at, assign_here, chain_at, choice_at, assignment_at, tail_at, climb_at, level_at, deeper, expr_at}
 use Rattle.kt_grammar.specs.Laws.{Begins, needs, ExprIsReadBack}
 use Rattle.kt_grammar.specs.Cut.{cut}
 use Rattle.kt_grammar.specs.CutLaws.{cut-bind, cut-kept, cut-joined, cut-first, cut-token, cut-then, cut-end, cut-none, begins-append, begins-at, symbols_of-rest}
 use Rattle.kt_grammar.specs.BackLaws.{closes, needs-closing, sign-back, name-back, type-cut, type-begins, listed-last, listed-more}
 use Rattle.kt_grammar.proofs.Beginnings.{expr_begins}
+use Rattle.kt_grammar.proofs.NewObjects.{fresh-back}
 use Rattle.kt_grammar.proofs.Fronts.{Quiet, quiet, question-quiet, stop, stop-le, stop-mono, stop-above, needs_7, needs-postfix, no_call, no_postfix, nothing_of_base, nothing_closed, needs-binary, needs-assign, needs-question, prefix_of-sign, prefix_sign-closed, assign_of-sign, precedence-bounds, binary_here-low, binary_here-high}
 use Rattle.kt_grammar.proofs.Resuming.{after_postfix, after_postfix-step, after_chain, after_chain-none, after_chain-step, operand_at, climbing, resume, resume-postfix, resume-chain, resume-quiet}
 
@@ -228,6 +230,20 @@ old_symbol_back at name Rules n d limit least marks rest e is low high need =
     (cut-then name_at (λ n. behind signs.CloseParenthesis n.1 >>= λ rest. Ok (OldSymbol at n.0, rest)) limit j.back k.front k.back rest (name, symbols_of k.back ++ rest) (Ok (OldSymbol at name, rest)) k.parts
     (name-back limit d name k.front (symbols_of k.back ++ rest) k.first (omega arith))
     (cut-end (behind signs.CloseParenthesis) (λ rest. Ok (OldSymbol at name, rest)) limit k.back rest rest (Ok (OldSymbol at name, rest)) (sign-back limit d signs.CloseParenthesis k.back rest k.second (omega arith)) refl))) refl))
+
+new_object_back : (at : ℕ) (fresh : Fresh) → IsBack (NewObject at fresh)
+unfolding unary_at primary_at rule_at new_object_at
+new_object_back at fresh C n d limit least marks rest e is low high need = let c = is.0 in absurd cc
+new_object_back at fresh Rules n d limit least marks rest e is low high need =
+    let j = is.1.second in let k = j.second in
+    from_postfix (NewObject at fresh) Rules n limit least marks rest (omega arith)
+    (cut-first (unary_at Rules (deeper Rules n)) limit d (symbol.RuleWord at rule.New) marks is.1.front is.1.back rest (after_postfix Rules n 0 (NewObject at fresh) rest) is.1.parts is.1.first (omega arith)
+    (cut-end (new_object_at at) (λ x. postfix_at Rules (deeper Rules n) x.0 x.1) limit is.1.back rest (NewObject at fresh, rest) (after_postfix Rules n 0 (NewObject at fresh) rest)
+    (cut-then (behind signs.OpenParenthesis) (λ inner. fresh_at inner >>= λ n. behind signs.CloseParenthesis n.1 >>= λ rest. Ok (NewObject at n.0, rest)) limit is.1.back j.front j.back rest (symbols_of j.back ++ rest) (Ok (NewObject at fresh, rest)) j.parts
+    (sign-back limit d signs.OpenParenthesis j.front (symbols_of j.back ++ rest) j.first (omega arith))
+    (cut-then fresh_at (λ n. behind signs.CloseParenthesis n.1 >>= λ rest. Ok (NewObject at n.0, rest)) limit j.back k.front k.back rest (fresh, symbols_of k.back ++ rest) (Ok (NewObject at fresh, rest)) k.parts
+    (fresh-back limit d fresh k.front (symbols_of k.back ++ rest) k.first (omega arith))
+    (cut-end (behind signs.CloseParenthesis) (λ rest. Ok (NewObject at fresh, rest)) limit k.back rest rest (Ok (NewObject at fresh, rest)) (sign-back limit d signs.CloseParenthesis k.back rest k.second (omega arith)) refl))) refl))
 
 transformed_back : (at : ℕ) (a : Term) → IsBack a → IsBack (Transformed at a)
 unfolding unary_at primary_at rule_at transform_at
@@ -550,6 +566,7 @@ mutual
   back (SizeOf at type) = size_back at type
   back (RuleValue at word) = value_back at word
   back (OldSymbol at n) = old_symbol_back at n
+  back (NewObject at f) = new_object_back at f
   back (Transformed at a) = transformed_back at a (back a)
   back (Element a i) = element_back a i (back a) (back i)
   back (Member a f) = member_back a f (back a)

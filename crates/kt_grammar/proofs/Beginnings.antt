@@ -11,7 +11,7 @@ use Rattle.kt_grammar.specs.declared.operator.Dialect.{Dialect}
 use Rattle.kt_grammar.specs.declared.operator.Dialect.TheVariants.{C, Rules}
 use Rattle.kt_grammar.specs.declared.operator.PrefixOperator.{PrefixOperator}
 use Rattle.kt_grammar.specs.declared.operator.PrefixOperator.TheVariants as prefix
-use Rattle.kt_grammar.specs.Tree.{Constant, Character, Text, Null, Eof, Named, Called, Parenthesised, SizeOf, RuleValue, OldSymbol, Transformed, Element, Member, Pointed, Stepped, Prefixed, Converted, Operated, Chosen, Assigned}
+use Rattle.kt_grammar.specs.Tree.{Constant, Character, Text, Null, Eof, Named, Called, Parenthesised, SizeOf, RuleValue, OldSymbol, Transformed, NewObject, Element, Member, Pointed, Stepped, Prefixed, Converted, Operated, Chosen, Assigned}
 use Rattle.kt_grammar.specs.Signs.{same_sign, prefix_sign, has_prefix, prefix_of}
 use Rattle.kt_grammar.specs.Marks.{Mark}
 use Rattle.kt_grammar.specs.Reading.{begins_expr}
@@ -54,6 +54,7 @@ expr_begins g d (SizeOf at type) marks is = first_begins g d (symbol.Keyword at 
 expr_begins g d (RuleValue at word) marks is = begins-token (IsBegun g) d (symbol.RuleWord at word) marks is.1.1 (λ rest. is.0)
 expr_begins g d (OldSymbol at n) marks is = first_begins g d (symbol.RuleWord at rule.OldSymbol) marks is.1.front is.1.back is.1.parts is.1.first (λ rest. is.0)
 expr_begins g d (Transformed at a) marks is = first_begins g d (symbol.RuleWord at rule.Transform) marks is.1.front is.1.back is.1.parts is.1.first (λ rest. is.0)
+expr_begins g d (NewObject at f) marks is = first_begins g d (symbol.RuleWord at rule.New) marks is.1.front is.1.back is.1.parts is.1.first (λ rest. is.0)
 expr_begins g d (Element a i) marks is = begins-append (IsBegun g) d marks is.1.front is.1.back is.1.parts (expr_begins g d a is.1.front is.1.first)
 expr_begins g d (Member a f) marks is = begins-append (IsBegun g) d marks is.1.front is.1.back is.1.parts (expr_begins g d a is.1.front is.1.first)
 expr_begins g d (Pointed a f) marks is = begins-append (IsBegun g) d marks is.1.front is.1.back is.1.parts (expr_begins g d a is.1.front is.1.first)

@@ -15,17 +15,18 @@ use Rattle.kt_grammar.specs.declared.operator.Dialect.{Dialect}
 use Rattle.kt_grammar.specs.declared.operator.PrefixOperator.{PrefixOperator}
 use Rattle.kt_grammar.specs.declared.operator.BinaryOperator.{BinaryOperator}
 use Rattle.kt_grammar.specs.declared.tree.Name.{Name}
-use Rattle.kt_grammar.specs.Tree.{Term, Constant, Character, Text, Null, Eof, Named, Called, Parenthesised, SizeOf, RuleValue, OldSymbol, Transformed, Element, Member, Pointed, Stepped, Prefixed, Converted, Operated, Chosen, Assigned, Terms, Nothing, More, terms_of}
+use Rattle.kt_grammar.specs.Tree.{Term, Constant, Character, Text, Null, Eof, Named, Called, Parenthesised, SizeOf, RuleValue, OldSymbol, Transformed, NewObject, Element, Member, Pointed, Stepped, Prefixed, Converted, Operated, Chosen, Assigned, Terms, Nothing, More, terms_of}
 use Rattle.kt_grammar.specs.Signs.{is_c, same_sign, prefix_sign, step_sign, binary_sign, assign_sign, precedence, prefix_of, step_of}
 use Rattle.kt_grammar.specs.Marks.{Mark, token, sign as sign_token, name, Joined, ◌·◌}
 use Rattle.kt_grammar.specs.Spelling.{level, links, links_at, spells, arguments}
 use Rattle.kt_grammar.specs.Cursor.{◌>>=◌, Outcome, unexpected, begins_sign, behind, name_at, listed_at}
-use Rattle.kt_grammar.specs.Reading.{Readers, begins_base, begins_expr, begins_postfix, type_at, between_at, deep, deep_level, more_at, index_at, stepped_at, postfix_at, arguments_at, named_at, old_symbol_at, transform_at, rule_at, primary_at, parenthesis_at, prefixed_at, unary_at, binary_here, assign_here, chain_at, choice_at, assignment_at, tail_at, climb_at, level_at, deeper, expr_at}
+use Rattle.kt_grammar.specs.Reading.{Readers, begins_base, begins_expr, begins_postfix, type_at, between_at, deep, deep_level, more_at, index_at, stepped_at, postfix_at, arguments_at, named_at, old_symbol_at, fresh_at, new_object_at, transform_at, rule_at, primary_at, parenthesis_at, prefixed_at, unary_at, binary_here, assign_here, chain_at, choice_at, assignment_at, tail_at, climb_at, level_at, deeper, expr_at}
 use Rattle.kt_grammar.specs.Laws.{Stands, FaultStands, some_expr, ExprFaultStands, ExprGoesOn}
 use Rattle.kt_grammar.specs.StandsLaws.{chosen, both_true, same_sign_is, token_stands, stands_joined, stands_as, begins_sign_stands, behind_stands, name_at_stands, type_at_stands}
 use Rattle.kt_grammar.specs.FaultLaws.{no_fault, bind_err, unexpected_stands, too_deep_stands, fault_as, fault_before, fault_behind, sign_mark, behind_fault, blank_name, name_mark, some_name, name_at_fault, base_mark, some_type, is_blank_type, type_at_fault, between_at_fault, listed_at_fault}
 use Rattle.kt_grammar.proofs.Operators.{picked, prefix_of-is, step_of-is, sign_is_stands, binary_here-is, assign_here-is}
 use Rattle.kt_grammar.proofs.ExprStands.{continues, LevelStands, GoesOn, IsSound, AreSound, continued, deep-is, deep_level-is, index_once, member_once, pointed_once, step_once, no_links, operated, deeper_link, chain_once, tail_at-is, listed_terms, primary_at-is, unary_at-is, deeper-is, listed_arguments}
+use Rattle.kt_grammar.proofs.NewObjects.{some_fresh, fresh_blank, fresh_at_stands, fresh_at_fault}
 
 -- what makes of an expression any of at least a level
 abbrev some_more : Dialect → ℕ → ℕ → Term → List Mark → Type 0
@@ -150,6 +151,29 @@ begins_rule_expr g d at rule.OldSymbol e = (
           parts = refl;
           first = (0, refl);
           second = record { front = name_mark d; back = sign_mark d sign.CloseParenthesis; parts = refl; first = refl; second = (0, refl) };
+        };
+      },
+    ),
+  ),
+)
+begins_rule_expr g d at rule.New e = (
+  sign_mark d sign.OpenParenthesis ++ (fresh_blank d).0 ++ sign_mark d sign.CloseParenthesis,
+  (
+    NewObject at (fresh_blank d).1.0,
+    omega arith,
+    (
+      e,
+      record {
+        front = record { symbol = symbol.RuleWord at rule.New; depth = d } ∷ [];
+        back = sign_mark d sign.OpenParenthesis ++ (fresh_blank d).0 ++ sign_mark d sign.CloseParenthesis;
+        parts = refl;
+        first = refl;
+        second = record {
+          front = sign_mark d sign.OpenParenthesis;
+          back = (fresh_blank d).0 ++ sign_mark d sign.CloseParenthesis;
+          parts = refl;
+          first = (0, refl);
+          second = record { front = (fresh_blank d).0; back = sign_mark d sign.CloseParenthesis; parts = refl; first = (fresh_blank d).1.1; second = (0, refl) };
         };
       },
     ),
@@ -663,6 +687,48 @@ module _ (g : Dialect) (limit d : ℕ) (r : Option Readers) (within : d ≤ limi
         ])
       ]))
 
+  new_object_at_fault : (at : ℕ) (rest : List Symbol) (fault : Fault) → is_c g ≡ false → new_object_at at rest ≡ Err fault → FaultStands limit (some_expr g 8 d) (symbol.RuleWord at rule.New ∷ rest) fault
+  unfolding new_object_at
+  new_object_at_fault at rest fault rules e = fault_as (some_expr g 8 d)
+      (λ m j. (
+        NewObject at j.second.second.first.0,
+        omega arith,
+        (
+          ap not rules,
+          record {
+            front = j.front;
+            back = j.back;
+            parts = j.parts;
+            first = j.first;
+            second = record {
+              front = j.second.front;
+              back = j.second.back;
+              parts = j.second.parts;
+              first = j.second.first;
+              second = record {
+                front = j.second.second.front;
+                back = j.second.second.back;
+                parts = j.second.second.parts;
+                first = j.second.second.first.1;
+                second = j.second.second.second;
+              };
+            };
+          },
+        ),
+      ))
+      (fault_behind (token_stands limit d (symbol.RuleWord at rule.New) rest within) (elim (bind_err (behind sign.OpenParenthesis rest) _ fault e) [
+        | inl w ↦ fault_before (some_fresh d · sign_token d sign.CloseParenthesis) ((fresh_blank d).0 ++ sign_mark d sign.CloseParenthesis)
+            (record { front = (fresh_blank d).0; back = sign_mark d sign.CloseParenthesis; parts = refl; first = (fresh_blank d).1; second = (0, refl) })
+            (behind_fault limit d sign.OpenParenthesis rest fault w)
+        | inr o ↦ fault_behind (behind_stands limit d sign.OpenParenthesis rest o.0 within o.1) (elim (bind_err (fresh_at o.0) _ fault o.2) [
+          | inl w ↦ fault_before (sign_token d sign.CloseParenthesis) (sign_mark d sign.CloseParenthesis) (0, refl) (fresh_at_fault limit d o.0 fault within w)
+          | inr n ↦ fault_behind (stands_as (some_fresh d) (λ m k. (n.0.0, k)) (fresh_at_stands limit d o.0 n.0 within n.1)) (elim (bind_err (behind sign.CloseParenthesis n.0.1) _ fault n.2) [
+            | inl w ↦ behind_fault limit d sign.CloseParenthesis n.0.1 fault w
+            | inr w ↦ no_fault _ fault w.2
+          ])
+        ])
+      ]))
+
   transform_at_fault : (at : ℕ) (rest : List Symbol) (fault : Fault) → is_c g ≡ false → transform_at g r at rest ≡ Err fault → FaultStands limit (some_expr g 8 d) (symbol.RuleWord at rule.Transform ∷ rest) fault
   unfolding transform_at
   transform_at_fault at rest fault rules e = fault_as (some_expr g 8 d)
@@ -712,6 +778,7 @@ module _ (g : Dialect) (limit d : ℕ) (r : Option Readers) (within : d ≤ limi
   rule_at_fault at rule.Base rest fault rules e = no_fault _ fault e
   rule_at_fault at rule.OldSymbol rest fault rules e = old_symbol_at_fault at rest fault rules e
   rule_at_fault at rule.Transform rest fault rules e = transform_at_fault at rest fault rules e
+  rule_at_fault at rule.New rest fault rules e = new_object_at_fault at rest fault rules e
 
   size_of_at_fault : (at : ℕ) (rest : List Symbol) (fault : Fault) → is_c g ≡ true → ◌≡◌ {A = Outcome Term} (between_at rest >>= λ t. Ok (SizeOf at t.0, t.1)) (Err fault) → FaultStands limit (some_expr g 8 d) (symbol.Keyword at keywords.SizeOf ∷ rest) fault
   size_of_at_fault at rest fault c e = elim (bind_err (between_at rest) _ fault e) [

@@ -11,13 +11,14 @@ use Rattle.kt_grammar.specs.declared.operator.Dialect.{Dialect}
 use Rattle.kt_grammar.specs.declared.operator.PrefixOperator.{PrefixOperator}
 use Rattle.kt_grammar.specs.declared.operator.StepOperator.{StepOperator}
 use Rattle.kt_grammar.specs.declared.tree.Name.{Name}
-use Rattle.kt_grammar.specs.Tree.{Term, Constant, Character, Text, Null, Eof, Named, Called, Parenthesised, SizeOf, RuleValue, OldSymbol, Transformed, Element, Member, Pointed, Stepped, Prefixed, Converted, Operated, Chosen, Assigned, terms_of}
+use Rattle.kt_grammar.specs.Tree.{Term, Constant, Character, Text, Null, Eof, Named, Called, Parenthesised, SizeOf, RuleValue, OldSymbol, Transformed, NewObject, Element, Member, Pointed, Stepped, Prefixed, Converted, Operated, Chosen, Assigned, terms_of}
 use Rattle.kt_grammar.specs.Signs.{is_c, same_sign, prefix_of, step_of}
 use Rattle.kt_grammar.specs.Cursor.{◌>>=◌, Outcome, listed_at}
-use Rattle.kt_grammar.specs.Reading.{Readers, begins_expr, begins_postfix, deep, deep_level, more_at, index_at, stepped_at, postfix_at, arguments_at, named_at, old_symbol_at, transform_at, rule_at, primary_at, parenthesis_at, prefixed_at, unary_at, binary_here, assign_here, chain_at, choice_at, assignment_at, tail_at, climb_at, level_at, deeper, expr_at}
+use Rattle.kt_grammar.specs.Reading.{Readers, begins_expr, begins_postfix, deep, deep_level, more_at, index_at, stepped_at, postfix_at, arguments_at, named_at, old_symbol_at, new_object_at, transform_at, rule_at, primary_at, parenthesis_at, prefixed_at, unary_at, binary_here, assign_here, chain_at, choice_at, assignment_at, tail_at, climb_at, level_at, deeper, expr_at}
 use Rattle.kt_grammar.specs.Laws.{ExprIsLocal}
 use Rattle.kt_grammar.specs.Local.{IsLocal}
 use Rattle.kt_grammar.specs.LocalLaws.{IsLocalFrom, IsFirst, then_local, gives_local, unexpected_local, too_deep_local, taken, untaken, by_first, dropped, either_from, and_first, if_local, option_local, begins_sign-first, behind_local, name_at-local, begins_base-first, begins_expr-first, refused_local, type_at-local, between_at-local, listed_local}
+use Rattle.kt_grammar.proofs.NewObjects.{fresh_at-local}
 
 -- ---- first symbols
 
@@ -111,6 +112,10 @@ module _ (g : Dialect) (r : Option Readers) (l : AreLocal r) where
   unfolding old_symbol_at
   old_symbol_at-local at = behind_local signs.OpenParenthesis (then_local _ name_at-local (λ n. behind_local signs.CloseParenthesis (gives_local (OldSymbol at n))))
 
+  new_object_at-local : (at : ℕ) → IsLocal (new_object_at at)
+  unfolding new_object_at
+  new_object_at-local at = behind_local signs.OpenParenthesis (then_local _ fresh_at-local (λ n. behind_local signs.CloseParenthesis (gives_local (NewObject at n))))
+
   transform_at-local : (at : ℕ) → IsLocal (transform_at g r at)
   unfolding transform_at
   transform_at-local at = behind_local signs.OpenParenthesis (then_local _ (deep_level-local g r 0 l) (λ a. behind_local signs.CloseParenthesis (gives_local (Transformed at a))))
@@ -122,6 +127,7 @@ module _ (g : Dialect) (r : Option Readers) (l : AreLocal r) where
   rule_at-local at rule.Base = gives_local (RuleValue at rule.Base)
   rule_at-local at rule.OldSymbol = old_symbol_at-local at
   rule_at-local at rule.Transform = transform_at-local at
+  rule_at-local at rule.New = new_object_at-local at
 
   primary_at-local : IsLocal (primary_at g r)
   unfolding primary_at

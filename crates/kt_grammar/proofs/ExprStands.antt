@@ -12,15 +12,16 @@ use Rattle.kt_grammar.specs.declared.operator.PrefixOperator.{PrefixOperator}
 use Rattle.kt_grammar.specs.declared.operator.StepOperator.{StepOperator}
 use Rattle.kt_grammar.specs.declared.operator.BinaryOperator.{BinaryOperator}
 use Rattle.kt_grammar.specs.declared.tree.Name.{Name}
-use Rattle.kt_grammar.specs.Tree.{Term, Constant, Character, Text, Null, Eof, Named, Called, Parenthesised, SizeOf, RuleValue, OldSymbol, Transformed, Element, Member, Pointed, Stepped, Prefixed, Converted, Operated, Chosen, Assigned, terms_of}
+use Rattle.kt_grammar.specs.Tree.{Term, Constant, Character, Text, Null, Eof, Named, Called, Parenthesised, SizeOf, RuleValue, OldSymbol, Transformed, NewObject, Element, Member, Pointed, Stepped, Prefixed, Converted, Operated, Chosen, Assigned, terms_of}
 use Rattle.kt_grammar.specs.Signs.{is_c, same_sign, prefix_sign, has_prefix, step_sign, binary_sign, precedence, prefix_of, step_of}
 use Rattle.kt_grammar.specs.Marks.{Mark, token, sign as sign_token, name, Joined, ◌·◌}
 use Rattle.kt_grammar.specs.Spelling.{level, links, links_at, spells, arguments}
 use Rattle.kt_grammar.specs.Cursor.{◌>>=◌, Outcome, begins_sign, behind, name_at, listed_at}
-use Rattle.kt_grammar.specs.Reading.{Readers, begins_base, begins_expr, begins_postfix, type_at, between_at, deep, deep_level, more_at, index_at, stepped_at, postfix_at, arguments_at, named_at, old_symbol_at, transform_at, rule_at, primary_at, parenthesis_at, prefixed_at, unary_at, binary_here, assign_here, chain_at, choice_at, assignment_at, tail_at, climb_at, level_at, deeper, expr_at}
+use Rattle.kt_grammar.specs.Reading.{Readers, begins_base, begins_expr, begins_postfix, type_at, between_at, deep, deep_level, more_at, index_at, stepped_at, postfix_at, arguments_at, named_at, old_symbol_at, fresh_at, new_object_at, transform_at, rule_at, primary_at, parenthesis_at, prefixed_at, unary_at, binary_here, assign_here, chain_at, choice_at, assignment_at, tail_at, climb_at, level_at, deeper, expr_at}
 use Rattle.kt_grammar.specs.Laws.{Stands, ExprStands}
 use Rattle.kt_grammar.specs.StandsLaws.{no_value, by_value, bind_ok, chosen, chosen_first, chosen_second, both_true, same_sign_is, nothing_stands, token_stands, stands_joined, stands_as, stands_when, begins_sign_stands, behind_stands, name_at_stands, type_at_stands, between_at_stands, listed, listed_at_stands}
 use Rattle.kt_grammar.proofs.Operators.{picked, prefix_of-is, step_of-is, sign_is_stands, binary_here-is, assign_here-is}
+use Rattle.kt_grammar.proofs.NewObjects.{fresh_at_stands}
 
 -- what stands behind an expression and makes another of it
 abbrev pub continues : Dialect → ℕ → Term → Term → List Mark → Type 0
@@ -356,6 +357,17 @@ module _ (g : Dialect) (limit d : ℕ) (r : Option Readers) (within : d ≤ limi
       (stands_joined (behind_stands limit d sign.OpenParenthesis rest o.value within o.gave)
       (stands_joined (name_at_stands limit d o.value n.value within n.gave) (behind_stands limit d sign.CloseParenthesis n.value.1 t.value within t.gave)))))
 
+  new_object_at-is : (at : ℕ) (rest : List Symbol) (y : Term × List Symbol) → is_c g ≡ false → new_object_at at rest ≡ Ok y → PrimaryStands g limit d (symbol.RuleWord at rule.New ∷ rest) y
+  unfolding new_object_at
+  new_object_at-is at rest y rules e =
+      let o = bind_ok (behind sign.OpenParenthesis rest) _ y e in
+      let n = bind_ok (fresh_at o.value) _ y o.then_gave in
+      let t = bind_ok (behind sign.CloseParenthesis n.value.1) _ y n.then_gave in
+      primary (NewObject at n.value.0) y t.then_gave refl refl
+      (stands_when (not (is_c g)) (ap not rules) (stands_joined (token_stands limit d (symbol.RuleWord at rule.New) rest within)
+      (stands_joined (behind_stands limit d sign.OpenParenthesis rest o.value within o.gave)
+      (stands_joined (fresh_at_stands limit d o.value n.value within n.gave) (behind_stands limit d sign.CloseParenthesis n.value.1 t.value within t.gave)))))
+
   transform_at-is : (at : ℕ) (rest : List Symbol) (y : Term × List Symbol) → is_c g ≡ false → transform_at g r at rest ≡ Ok y → PrimaryStands g limit d (symbol.RuleWord at rule.Transform ∷ rest) y
   unfolding transform_at
   transform_at-is at rest y rules e =
@@ -375,6 +387,7 @@ module _ (g : Dialect) (limit d : ℕ) (r : Option Readers) (within : d ≤ limi
   rule_at-is at rule.Base rest y rules e = primary (RuleValue at rule.Base) y e refl refl (stands_when (not (is_c g)) (ap not rules) (stands_when true refl (token_stands limit d (symbol.RuleWord at rule.Base) rest within)))
   rule_at-is at rule.OldSymbol rest y rules e = old_symbol_at-is at rest y rules e
   rule_at-is at rule.Transform rest y rules e = transform_at-is at rest y rules e
+  rule_at-is at rule.New rest y rules e = new_object_at-is at rest y rules e
 
   size_of_at-is : (at : ℕ) (rest : List Symbol) (y : Term × List Symbol) → is_c g ≡ true → (between_at rest >>= λ t. Ok (SizeOf at t.0, t.1)) ≡ Ok y → PrimaryStands g limit d (symbol.Keyword at keywords.SizeOf ∷ rest) y
   size_of_at-is at rest y c e =

@@ -14,3 +14,16 @@ pub mod Depths
 pub mod Loops
 pub mod Words
 mod Known
+pub mod Parts
+pub mod ListsBack
+pub mod ListLoops
+pub mod ListStands
+pub mod FaultSteps
+pub mod Deeper
+pub mod Conditions
+pub mod ItemTexts
+pub mod FaultsAreThere
+pub mod OneAnswer
+pub mod DepthsAgree
+pub mod FaultsAreTold
+pub mod NewObjects

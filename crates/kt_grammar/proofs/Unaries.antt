@@ -15,7 +15,7 @@ use Rattle.kt_grammar.specs.declared.head.Prefixing.TheVariants.{Cast}
 use Rattle.kt_grammar.specs.Tree.{Term, Named, Called, SizeOf, Converted, Parenthesised, terms_of}
 use Rattle.kt_grammar.specs.Signs.{is_c, same_sign, prefix_of}
 use Rattle.kt_grammar.specs.Cursor.{◌>>=◌, Outcome, unexpected, begins_sign, behind}
-use Rattle.kt_grammar.specs.Reading.{Readers, begins_base, type_at, between_at, deep_level, postfix_at, arguments_at, named_at, old_symbol_at, transform_at, rule_at, primary_at, parenthesis_at, prefixed_at, unary_at}
+use Rattle.kt_grammar.specs.Reading.{Readers, begins_base, type_at, between_at, deep_level, postfix_at, arguments_at, named_at, old_symbol_at, new_object_at, transform_at, rule_at, primary_at, parenthesis_at, prefixed_at, unary_at}
 use Rattle.kt_grammar.specs.Heads.{Front, Whole, Calling, Opening, Applying, name_head, open_head, prefix_head, rule_head, sign_head, head_at, behind_head}
 use Rattle.kt_grammar.proofs.Binds.{bind_assoc}
 
@@ -47,12 +47,13 @@ by_prefix g r at None symbols rest = refl
 by_prefix g r at (Some op) symbols rest = refl
 
 by_rule : (g : Dialect) (r : Option Readers) (at : ℕ) (word : RuleWord) (symbols : List Symbol) → with_postfix g r (rule_at g r at word symbols) ≡ completed g r (rule_head at word symbols)
-unfolding rule_at rule_head behind_head old_symbol_at transform_at
+unfolding rule_at rule_head behind_head old_symbol_at new_object_at transform_at
 by_rule g r at rule.In symbols = refl
 by_rule g r at rule.Out symbols = refl
 by_rule g r at rule.Base symbols = refl
 by_rule g r at rule.OldSymbol symbols = simp bind_assoc
 by_rule g r at rule.Transform symbols = simp bind_assoc
+by_rule g r at rule.New symbols = simp bind_assoc
 
 by_sign : (g : Dialect) (r : Option Readers) (at : ℕ) (s : Sign) (rest : List Symbol)
     → unary_at g r (symbol.Sign at s ∷ rest) ≡ completed g r (sign_head g at s (symbol.Sign at s ∷ rest) rest)

@@ -21,7 +21,7 @@ use Rattle.kt_grammar.specs.declared.postfix.PostfixOperator.TheVariants as post
 use Rattle.kt_grammar.specs.Tree.{Term, Constant, Character, Text, Null, Eof, Named, Called, Parenthesised, SizeOf, RuleValue, Transformed, Element, Member, Pointed, Stepped, Prefixed, Converted, term_of, terms_of}
 use Rattle.kt_grammar.specs.Signs.{is_c, same_sign, prefix_of, step_of}
 use Rattle.kt_grammar.specs.Cursor.{◌>>=◌, Outcome, unexpected, begins_sign, behind, name_at}
-use Rattle.kt_grammar.specs.Reading.{Readers, begins_base, type_at, between_at, deep_level, postfix_at, arguments_at, old_symbol_at}
+use Rattle.kt_grammar.specs.Reading.{Readers, begins_base, type_at, between_at, deep_level, postfix_at, arguments_at, old_symbol_at, new_object_at}
 
 -- the front of a unary expression
 pub data Front : Type 0 where
@@ -69,6 +69,7 @@ rule_head at rule.Out rest = Ok (Whole (RuleValue at rule.Out), rest)
 rule_head at rule.Base rest = Ok (Whole (RuleValue at rule.Base), rest)
 rule_head at rule.OldSymbol rest = old_symbol_at at rest >>= λ x. Ok (Whole x.0, x.1)
 rule_head at rule.Transform rest = behind signs.OpenParenthesis rest >>= λ inner. Ok (Opening (Transform at), inner)
+rule_head at rule.New rest = new_object_at at rest >>= λ x. Ok (Whole x.0, x.1)
 
 -- at a sign
 unfoldable pub sign_head : Dialect → ℕ → Sign → List Symbol → List Symbol → Outcome Front

@@ -16,3 +16,7 @@ pub mod CutLaws
 pub mod BackLaws
 pub mod FaultLaws
 pub mod LocalLaws
+pub mod Lists
+pub mod Conditions
+pub mod Texts
+pub mod TextLaws

@@ -1,6 +1,7 @@
 -- Expressions at the front of a list of symbols, with so many more constructs that may be opened.
 use Rattle.std.specs.Prelude.{ℕ, zero, suc, ◌+◌, ◌-◌, ◌==◌, ◌&&◌, ◌||◌, not, Bool, true, false, List, [], ◌∷◌, length, drop, Option, Some, None, Result, Ok, Err, if◌then◌else◌}
 use Rattle.std.specs.Option.{is_some}
+use Rattle.kt_lex.specs.declared.number.Number.{Number}
 use Rattle.kt_grammar.specs.declared.fault.Fault.{Fault}
 use Rattle.kt_grammar.specs.declared.fault.Fault.TheVariants.{TooDeep}
 use Rattle.kt_grammar.specs.declared.keyword.Keyword.TheVariants as keywords
@@ -18,7 +19,8 @@ use Rattle.kt_grammar.specs.declared.tree.Name.{Name}
 use Rattle.kt_grammar.specs.declared.tree.Base.{Base}
 use Rattle.kt_grammar.specs.declared.tree.Base.TheVariants as base
 use Rattle.kt_grammar.specs.declared.tree.TypeName.{TypeName}
-use Rattle.kt_grammar.specs.Tree.{Term, Constant, Character, Text, Null, Eof, Named, Called, Parenthesised, SizeOf, RuleValue, OldSymbol, Transformed, Element, Member, Pointed, Stepped, Prefixed, Converted, Operated, Chosen, Assigned, terms_of}
+use Rattle.kt_grammar.specs.declared.tree.Fresh.{Fresh}
+use Rattle.kt_grammar.specs.Tree.{Term, Constant, Character, Text, Null, Eof, Named, Called, Parenthesised, SizeOf, RuleValue, OldSymbol, Transformed, NewObject, Element, Member, Pointed, Stepped, Prefixed, Converted, Operated, Chosen, Assigned, terms_of}
 use Rattle.kt_grammar.specs.Signs.{is_c, same_sign, precedence, prefix_of, step_of, binary_of, assign_of}
 use Rattle.kt_grammar.specs.Cursor.{◌>>=◌, Outcome, unexpected, begins_sign, behind, name_at, count_sign, listed_at}
 
@@ -145,12 +147,29 @@ unfoldable pub transform_at : Dialect → Option Readers → ℕ → List Symbol
 transform_at g r at symbols = behind signs.OpenParenthesis symbols >>= λ inner. deep_level g r 0 inner
     >>= λ a. behind signs.CloseParenthesis a.1 >>= λ rest. Ok (Transformed at a.0, rest)
 
+-- a number and its place
+unfoldable pub number_at : List Symbol → Outcome (ℕ × Number)
+number_at (symbol.Number at n ∷ rest) = Ok ((at, n), rest)
+number_at [] = unexpected []
+number_at (other ∷ rest) = unexpected (other ∷ rest)
+
+-- what stands between the parentheses of `$new`
+unfoldable pub fresh_at : List Symbol → Outcome Fresh
+fresh_at symbols = type_at symbols >>= λ t. behind signs.Comma t.1 >>= λ rest. number_at rest
+    >>= λ n. Ok (record { type_name = t.0; at = n.0.0; count = n.0.1 }, n.1)
+
+-- `$new(T, n)`, behind its word
+unfoldable pub new_object_at : ℕ → List Symbol → Outcome Term
+new_object_at at symbols = behind signs.OpenParenthesis symbols >>= λ inner. fresh_at inner
+    >>= λ f. behind signs.CloseParenthesis f.1 >>= λ rest. Ok (NewObject at f.0, rest)
+
 unfoldable pub rule_at : Dialect → Option Readers → ℕ → RuleWord → List Symbol → Outcome Term
 rule_at g r at rule.In rest = Ok (RuleValue at rule.In, rest)
 rule_at g r at rule.Out rest = Ok (RuleValue at rule.Out, rest)
 rule_at g r at rule.Base rest = Ok (RuleValue at rule.Base, rest)
 rule_at g r at rule.OldSymbol rest = old_symbol_at at rest
 rule_at g r at rule.Transform rest = transform_at g r at rest
+rule_at g r at rule.New rest = new_object_at at rest
 
 -- a primary expression that does not begin with a sign
 unfoldable pub primary_at : Dialect → Option Readers → List Symbol → Outcome Term

@@ -9,7 +9,8 @@ use Rattle.kt_grammar.specs.declared.operator.Dialect.{Dialect}
 use Rattle.kt_grammar.specs.declared.tree.Base.{Base}
 use Rattle.kt_grammar.specs.declared.tree.Base.TheVariants as base
 use Rattle.kt_grammar.specs.declared.tree.TypeName.{TypeName}
-use Rattle.kt_grammar.specs.Tree.{Term, Constant, Character, Text, Null, Eof, Named, Called, Parenthesised, SizeOf, RuleValue, OldSymbol, Transformed, Element, Member, Pointed, Stepped, Prefixed, Converted, Operated, Chosen, Assigned, Terms, Nothing, More}
+use Rattle.kt_grammar.specs.declared.tree.Fresh.{Fresh}
+use Rattle.kt_grammar.specs.Tree.{Term, Constant, Character, Text, Null, Eof, Named, Called, Parenthesised, SizeOf, RuleValue, OldSymbol, Transformed, NewObject, Element, Member, Pointed, Stepped, Prefixed, Converted, Operated, Chosen, Assigned, Terms, Nothing, More}
 use Rattle.kt_grammar.specs.Signs.{is_c, prefix_sign, has_prefix, step_sign, binary_sign, assign_sign, precedence}
 use Rattle.kt_grammar.specs.Marks.{Language, nothing, token, sign, keyword, name, ◌·◌, when, optional, repeated}
 
@@ -61,6 +62,11 @@ is_value rule.Out = true
 is_value rule.Base = true
 is_value rule.OldSymbol = false
 is_value rule.Transform = false
+is_value rule.New = false
+
+-- what stands between the parentheses of `$new`: a type, a comma and a number
+abbrev pub spells_fresh : ℕ → Fresh → Language
+spells_fresh d f = spells_type d f.type_name · sign d signs.Comma · token d (symbol.Number f.at f.count)
 
 -- what an expression that begins at depth d is spelled by
 abbrev mutual
@@ -77,6 +83,7 @@ abbrev mutual
   spells g d (RuleValue at word) = when (not (is_c g)) (when (is_value word) (token d (symbol.RuleWord at word)))
   spells g d (OldSymbol at n) = when (not (is_c g)) (token d (symbol.RuleWord at rule.OldSymbol) · between d (name d n))
   spells g d (Transformed at a) = when (not (is_c g)) (token d (symbol.RuleWord at rule.Transform) · between d (spells g (suc d) a))
+  spells g d (NewObject at f) = when (not (is_c g)) (token d (symbol.RuleWord at rule.New) · between d (spells_fresh d f))
   spells g d (Element a i) =
       when (nat_le 9 (level a)) (spells g d a · sign (d + links a) signs.OpenBracket · spells g (suc (d + links a)) i · sign (d + links a) signs.CloseBracket)
   spells g d (Member a f) = when (nat_le 9 (level a)) (spells g d a · sign (d + links a) signs.Dot · name (d + links a) f)

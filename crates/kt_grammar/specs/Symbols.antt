@@ -72,7 +72,8 @@ rule_word_of word =
     else (if bytes_eq (codes "$base") word then Some rule.Base
     else (if bytes_eq (codes "$oldsym") word then Some rule.OldSymbol
     else (if bytes_eq (codes "$xform") word then Some rule.Transform
-    else None))))
+    else (if bytes_eq (codes "$new") word then Some rule.New
+    else None)))))
 
 -- ---- signs (6.4.6; `::` is of rule files)
 

@@ -8,6 +8,7 @@ use Rattle.kt_grammar.specs.declared.operator.BinaryOperator.{BinaryOperator}
 use Rattle.kt_grammar.specs.declared.operator.AssignOperator.{AssignOperator}
 use Rattle.kt_grammar.specs.declared.tree.Name.{Name}
 use Rattle.kt_grammar.specs.declared.tree.TypeName.{TypeName}
+use Rattle.kt_grammar.specs.declared.tree.Fresh.{Fresh}
 use Rattle.kt_grammar.specs.declared.tree.Expr.{Expr, Call', Paren', Transform', Index', Field', Arrow', Step', Prefix', Cast', Binary', Choice', Assign', Row_of-Expr, end_of-Expr, more_of-Expr}
 use Rattle.kt_grammar.specs.declared.tree.Expr.TheVariants as expr
 
@@ -29,6 +30,8 @@ mutual
     OldSymbol : ℕ → Name → Term
     -- `$xform(e)`
     Transformed : ℕ → Term → Term
+    -- `$new(T, n)`
+    NewObject : ℕ → Fresh → Term
     -- `a[i]`
     Element : Term → Term → Term
     -- `s.f`
@@ -61,6 +64,7 @@ abbrev mutual
   term_of (expr.Rule at word) = RuleValue at word
   term_of (expr.OldSymbol at name) = OldSymbol at name
   term_of (Transform' at p (more_of-Expr a end_of-Expr)) = Transformed at (term_of a)
+  term_of (expr.New at fresh) = NewObject at fresh
   term_of (Index' p (more_of-Expr a end_of-Expr) q (more_of-Expr i end_of-Expr)) = Element (term_of a) (term_of i)
   term_of (Field' p (more_of-Expr a end_of-Expr) name) = Member (term_of a) name
   term_of (Arrow' p (more_of-Expr a end_of-Expr) name) = Pointed (term_of a) name

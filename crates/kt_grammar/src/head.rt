@@ -3,7 +3,7 @@
 ghost use Rattle.std.specs.Prelude.{◌≡◌, ◌<◌, ◌≤◌, ◌∷◌, length, IfOk};
 ghost use Rattle.kt_grammar.specs.Cursor.{Gives};
 ghost use Rattle.kt_grammar.specs.Tree.{term_of};
-ghost use Rattle.kt_grammar.specs.Reading.{old_symbol_at};
+ghost use Rattle.kt_grammar.specs.Reading.{old_symbol_at, number_at, fresh_at, new_object_at};
 ghost use Rattle.kt_grammar.specs.Heads.{front_of, enclosed, applied, name_head, open_head, prefix_head, rule_head, sign_head, head_at};
 
 use super::cursor::{begins_sign, behind, behind_first, name};
@@ -14,8 +14,9 @@ use super::operator::{Dialect, PrefixOperator};
 use super::sign::Sign;
 use super::sign_of::prefix_of;
 use super::symbol::Symbol;
-use super::tree::{Expr, Name, TypeName};
+use super::tree::{Expr, Fresh, Name, TypeName};
 use super::types::{begins_base, between, type_name};
+use kt_lex::Number;
 use sqlite_items::Items;
 use std::alloc::{AllocError, Global};
 
@@ -179,6 +180,10 @@ fn rule(at: u32, word: RuleWord, symbols: &[Symbol]) -> Result<(Head, &[Symbol])
             let rest = behind(Sign::OpenParenthesis, symbols)?;
             Ok((Head::Enclosing(Enclosing::Transform(at)), rest))
         }
+        RuleWord::New => {
+            let (x, rest) = new_object(at, symbols)?;
+            Ok((Head::Whole(x), rest))
+        }
     }
 }
 
@@ -192,4 +197,47 @@ fn old_symbol(at: u32, symbols: &[Symbol]) -> Result<(Expr, &[Symbol]), Fault>
     let (name, rest) = name(rest)?;
     let (name, rest) = beside(name, behind(Sign::CloseParenthesis, rest))?;
     Ok((Expr::OldSymbol(at, name), rest))
+}
+
+/// A number and its place.
+#[tactic(auto, unfolding(crate::specs::Reading::number_at))]
+fn number(symbols: &[Symbol]) -> Result<((u32, Number), &[Symbol]), Fault>
+    ensures read { Gives (λ x. (x.0, x.1.now)) result (number_at symbols.now) }
+    ensures shorter { IfOk result (λ x. length x.1.now < length symbols.now) }
+{
+    match symbols {
+        [Symbol::Number(at, number), rest @ ..] => Ok(((*at, *number), rest)),
+        _ => Err(Fault::Syntax(symbols.len())),
+    }
+}
+
+/// What stands between the parentheses of `$new`.
+#[tactic(auto, unfolding(crate::specs::Reading::fresh_at))]
+fn fresh(symbols: &[Symbol]) -> Result<(Fresh, &[Symbol]), Fault>
+    ensures read { Gives (λ x. (x.0, x.1.now)) result (fresh_at symbols.now) }
+    ensures shorter { IfOk result (λ x. length x.1.now < length symbols.now) }
+{
+    let (type_name, rest) = type_name(symbols)?;
+    let (type_name, rest) = beside(type_name, behind(Sign::Comma, rest))?;
+    let (type_name, ((at, count), rest)) = beside(type_name, number(rest))?;
+    Ok((
+        Fresh {
+            type_name,
+            at,
+            count,
+        },
+        rest,
+    ))
+}
+
+/// `$new(T, n)`, behind its word.
+#[tactic(auto, unfolding(crate::specs::Reading::new_object_at))]
+fn new_object(at: u32, symbols: &[Symbol]) -> Result<(Expr, &[Symbol]), Fault>
+    ensures read { Gives (λ x. (term_of x.0, x.1.now)) result (new_object_at at symbols.now) }
+    ensures shorter { IfOk result (λ x. length x.1.now < length symbols.now) }
+{
+    let rest = behind(Sign::OpenParenthesis, symbols)?;
+    let (fresh, rest) = fresh(rest)?;
+    let (fresh, rest) = beside(fresh, behind(Sign::CloseParenthesis, rest))?;
+    Ok((Expr::New(at, fresh), rest))
 }

@@ -34,4 +34,5 @@ pub enum RuleWord {
     Base,
     OldSymbol,
     Transform,
+    New,
 }

@@ -120,6 +120,8 @@ pub(crate) fn rule_word_of(word: &[u8]) -> Option<RuleWord>
         Some(RuleWord::OldSymbol)
     } else if is(b"$xform", word) {
         Some(RuleWord::Transform)
+    } else if is(b"$new", word) {
+        Some(RuleWord::New)
     } else {
         None
     }

@@ -28,6 +28,14 @@ pub struct TypeName {
     pub stars: usize,
 }
 
+/// What stands between the parentheses of `$new`: a type, a number and the number's place.
+#[derive(Drop)]
+pub struct Fresh {
+    pub type_name: TypeName,
+    pub at: u32,
+    pub count: Number,
+}
+
 /// An expression (ISO/IEC 9899:2011, 6.5). The number is the place of its first token, where no part of it begins there.
 #[derive(Drop)]
 pub enum Expr {
@@ -44,6 +52,7 @@ pub enum Expr {
     Rule(u32, RuleWord),
     OldSymbol(u32, Name),
     Transform(u32, Boxed<Expr>),
+    New(u32, Fresh),
     Index(Boxed<Expr>, Boxed<Expr>),
     Field(Boxed<Expr>, Name),
     Arrow(Boxed<Expr>, Name),

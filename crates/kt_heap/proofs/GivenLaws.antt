@@ -15,7 +15,7 @@ use Rattle.kt_mem.specs.Values.{ty_eq, defined}
 use Rattle.kt_mem.specs.Memory.{Memory, Object, Cell, put, cell_value, value_in, value_at, and_then, written, with_value, object_with, unless_literal, locked, unlocked, initialised, without, fresh_cell, repeated, fresh_object}
 use Rattle.kt_mem.proofs.Names.{put-cases}
 use Rattle.kt_mem.proofs.Changes.{and_then_ok, written_ok, release_ok}
-use Rattle.kt_heap.specs.ByNumber.{Pairs, WasGiven, HoldsGiven, LoadsGiven, StoresGiven, LocksGiven, UnlocksGiven, InitsGiven, ReleasesGiven, AllocsGiven}
+use Rattle.kt_heap.specs.ByNumber.{Pairs, WasGiven, HoldsGiven, LoadsGiven, StoresGiven, LocksGiven, UnlocksGiven, InitsGiven, ReleasesGiven, AllocsGiven, GrowsGiven}
 
 -- ---- cells
 
@@ -212,3 +212,6 @@ allocs_given pairs m a place count types zeros holds =
     let more : Pairs = pairs ++ (a, m.next) ∷ [] in
     let o : Object = fresh_object m.next place types count zeros in
     put_given more m (Heap a) (Some o) (m.next + 1) (m.live + length o.cells) (λ n x k c there cell. pushed_given pairs a m.next c.value (holds n x k c there cell)) (λ x is. subst (λ (y : Object). AreGiven more y.cells) (some_object (Some o) o x refl is) (repeated_given more count (map (fresh_cell zeros) types) (fresh_cells_given more zeros types)))
+
+pub grows_given : GrowsGiven
+grows_given = pushed_given

@@ -14,10 +14,10 @@ use Rattle.kt_mem.specs.declared.steps.Trap.TheVariants as trap
 use Rattle.kt_mem.specs.Values.{name_eq, defined}
 use Rattle.kt_mem.specs.Memory.{Memory, Object, Cell, no_objects, put, value_at, and_then, written, with_value, object_with, unless_literal, locked, unlocked, initialised, held_by_other, released, without, fresh_object}
 use Rattle.kt_heap.specs.Heap.{Paired, IsNew, IsPairing}
-use Rattle.kt_heap.specs.ByNumber.{Pairs, number_of, address_paired, name_by_number, value_by_number, cell_by_number, object_by_number, object_named, by_number, answer_by, WasGiven, HoldsGiven, StartsByNumber, LoadsByNumber, StoresByNumber, ReleasesByNumber, LocksByNumber, UnlocksByNumber, InitsByNumber, WaitsByNumber, AllocsByNumber, CarriesNumber}
+use Rattle.kt_heap.specs.ByNumber.{Pairs, number_of, address_paired, name_by_number, value_by_number, cell_by_number, object_by_number, object_named, by_number, answer_by, WasGiven, HoldsGiven, StartsByNumber, LoadsByNumber, StoresByNumber, ReleasesByNumber, LocksByNumber, UnlocksByNumber, InitsByNumber, WaitsByNumber, AllocsByNumber, GrowsByNumber, LooksByNumber, CarriesNumber}
 use Rattle.kt_heap.proofs.Places.{by_test}
 use Rattle.kt_heap.proofs.Pairs.{number_there, address_there, address_is_paired, address_kept, address_pushed}
-use Rattle.kt_heap.proofs.Renamed.{NameGiven, name_given, object_there, value_at_by, defined_by, object_with_by, fresh_object_by, object_pushed}
+use Rattle.kt_heap.proofs.Renamed.{NameGiven, name_given, object_there, value_at_by, defined_by, object_with_by, fresh_object_by, value_pushed, object_pushed}
 
 -- ---- a memory after a change under one name
 
@@ -257,3 +257,12 @@ carries_number pairs m kept n o there = by_address (address_paired pairs n) refl
     by_address : (x : Option ℕ) → address_paired pairs n ≡ x → option_map (object_by_number pairs) (option_and_then (λ c. m.at (Heap c)) x) ≡ Some o → o.number ≡ n
     by_address None e h = let never : ⊥ = cc in absurd never
     by_address (Some b) e h = number b (m.at (Heap b)) refl (address_is_paired pairs n b e) h
+
+-- ---- looking, and one pair more
+
+pub grows_by_number : GrowsByNumber
+grows_by_number = value_pushed
+
+pub looks_by_number : LooksByNumber
+looks_by_number pairs m n kept g =
+    ap (option_map (object_by_number pairs)) (object_there pairs m m.at n kept (name_given pairs n 0 g))

@@ -119,6 +119,17 @@ AllocsByNumber =
     → by_number (pairs ++ (a, m.next) ∷ []) (made m a (fresh_object m.next place types count zeros))
     ≡ made (by_number pairs m) m.next (fresh_object m.next place types count zeros)
 
+-- what was given out before a pair more has the number that it had
+abbrev pub GrowsByNumber : Type 0
+GrowsByNumber =
+    (pairs : Pairs) (a n : ℕ) (v : Value) → IsNew pairs a → WasGiven pairs v → value_by_number (pairs ++ (a, n) ∷ []) v ≡ value_by_number pairs v
+
+-- by heap number the object under a name that was given out is the object under that name
+abbrev pub LooksByNumber : Type 0
+LooksByNumber =
+    (pairs : Pairs) (m : Memory) (n : Name) → IsPairing pairs m → WasGiven pairs (Ptr n 0)
+    → (by_number pairs m).at (name_by_number pairs n) ≡ option_map (object_by_number pairs) (m.at n)
+
 -- by heap number each live heap object carries its own number
 abbrev pub CarriesNumber : Type 0
 CarriesNumber = (pairs : Pairs) (m : Memory) → IsPairing pairs m → IsNumbered (by_number pairs m)
@@ -146,6 +157,10 @@ InitsGiven = (pairs : Pairs) (m after : Memory) (p : Value) → HoldsGiven pairs
 
 abbrev pub ReleasesGiven : Type 0
 ReleasesGiven = (pairs : Pairs) (m after : Memory) (p : Value) → HoldsGiven pairs m → release m p ≡ Ok after → HoldsGiven pairs after
+
+-- after a pair more, what was given out still is
+abbrev pub GrowsGiven : Type 0
+GrowsGiven = (pairs : Pairs) (a n : ℕ) (v : Value) → WasGiven pairs v → WasGiven (pairs ++ (a, n) ∷ []) v
 
 abbrev pub AllocsGiven : Type 0
 AllocsGiven =

@@ -184,9 +184,9 @@ impl Heap {
             Value::Null => Err(Trap::Null),
             Value::Ptr(name, offset) => match self.named(name) {
                 None => Err(Trap::Dead),
-                Some(obj) => match obj.value(offset, ty) {
+                Some(obj) => match obj.stored(offset, ty) {
                     Err(trap) => Err(trap),
-                    Ok(value) => defined(value),
+                    Ok(stored) => defined(stored.value()),
                 },
             },
             _ => Err(Trap::Dead),
@@ -352,7 +352,7 @@ impl Heap {
             Name::Glob(i) => self.globals.store(u64::from(i), offset, cell),
             Name::Lit(v, i) => match self.literals.get(v, i) {
                 None => Err(Trap::Dead),
-                Some(obj) => match obj.value(offset, cell.ty()) {
+                Some(obj) => match obj.stored(offset, cell.ty()) {
                     Err(trap) => Err(trap),
                     Ok(_) => Err(Trap::Literal),
                 },

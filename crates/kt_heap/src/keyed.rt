@@ -104,7 +104,7 @@ impl Keyed {
         Ok(address)
     }
 
-    /// Writes a cell of the object at an address, with the traps of `Obj::value`, and `dead` where there is no object.
+    /// Writes a cell of the object at an address, with the traps of `Obj::stored`, and `dead` where there is no object.
     pub fn store(&mut self, a: u64, offset: u32, cell: Cell) -> Result<(), Trap>
         ensures written { OnOk result (IsPut self.old self.new a (option_map (obj_with offset cell) (obj_at self.old a))) }
         ensures keys { self.new.keys ≡ self.old.keys }

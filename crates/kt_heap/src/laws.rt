@@ -1,5 +1,5 @@
 //! Laws of memory by heap number: calls that do nothing, and ensure what holds of the definitions.
-ghost use Rattle.kt_heap.specs.ByNumber.{StartsByNumber, LoadsByNumber, StoresByNumber, ReleasesByNumber, LocksByNumber, UnlocksByNumber, InitsByNumber, WaitsByNumber, AllocsByNumber, CarriesNumber, LoadsGiven, StoresGiven, LocksGiven, UnlocksGiven, InitsGiven, ReleasesGiven, AllocsGiven};
+ghost use Rattle.kt_heap.specs.ByNumber.{StartsByNumber, LoadsByNumber, StoresByNumber, ReleasesByNumber, LocksByNumber, UnlocksByNumber, InitsByNumber, WaitsByNumber, AllocsByNumber, GrowsByNumber, LooksByNumber, CarriesNumber, LoadsGiven, StoresGiven, LocksGiven, UnlocksGiven, InitsGiven, ReleasesGiven, AllocsGiven, GrowsGiven};
 
 /// Each act on a memory whose heap names are addresses is the act on the memory by heap number, answer for answer: of
 /// pointers that were given out.
@@ -13,6 +13,8 @@ pub fn by_number_law()
     ensures init { InitsByNumber }
     ensures waits { WaitsByNumber }
     ensures alloc { AllocsByNumber }
+    ensures grows { GrowsByNumber }
+    ensures looks { LooksByNumber }
     ensures own { CarriesNumber }
 {}
 
@@ -25,4 +27,5 @@ pub fn given_law()
     ensures unlock { UnlocksGiven }
     ensures init { InitsGiven }
     ensures alloc { AllocsGiven }
+    ensures grows { GrowsGiven }
 {}

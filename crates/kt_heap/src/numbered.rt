@@ -60,7 +60,7 @@ impl Numbered {
         Ok(())
     }
 
-    /// Writes a cell of the object at a place, with the traps of `Obj::value`, and `dead` where there is no object.
+    /// Writes a cell of the object at a place, with the traps of `Obj::stored`, and `dead` where there is no object.
     pub fn store(&mut self, place: u64, offset: u32, cell: Cell) -> Result<(), Trap>
         ensures written { OnOk result ((i : ℕ) → held self.new i ≡ (if i == place then option_map (obj_with offset cell) (held self.old place) else held self.old i)) }
         ensures there { OnOk result (IsOk (value_in (object_in self.old place) offset cell.ty)) }

@@ -3,7 +3,7 @@ ghost use Rattle.std.specs.Prelude.{◌≡◌, ◌*◌, ◌≤◌, ◌++◌, len
 ghost use Rattle.kt_mem.specs.Memory.{value_in, fresh_cell, repeated, zero_value};
 ghost use Rattle.kt_heap.specs.Objects.{shown, obj_with};
 
-use kt_mem::{Cell, Cells, Trap, Value};
+use kt_mem::{Cell, Cells, Stored, Trap, Value};
 use kt_types::Ty;
 use std::alloc::{AllocError, Global};
 
@@ -19,18 +19,13 @@ pub struct Obj {
 
 impl Obj {
     /// What the cell at an offset holds: `bounds` past the object, and at a cell of another type.
-    pub(crate) fn value(&self, offset: u32, ty: Ty) -> Result<Value, Trap>
+    #[inline]
+    pub(crate) fn stored(&self, offset: u32, ty: Ty) -> Result<Stored, Trap>
         ensures { result ≡ value_in (Some (shown self.now)) offset ty }
     {
         match self.cells.as_slice().get(offset as usize) {
             None => Err(Trap::Bounds),
-            Some(cell) => {
-                if cell.ty() == ty {
-                    Ok(cell.value())
-                } else {
-                    Err(Trap::Bounds)
-                }
-            }
+            Some(cell) => cell.stored(ty).ok_or(Trap::Bounds),
         }
     }
 
@@ -41,7 +36,7 @@ impl Obj {
         ensures trap { IfErr result (λ t. value_in (Some (shown self.old)) offset cell.ty ≡ Err t) }
         ensures kept { OnErr result (self.new ≡ self.old) }
     {
-        self.value(offset, cell.ty())?;
+        self.stored(offset, cell.ty())?;
         self.cells.set(offset as usize, cell);
         Ok(())
     }

@@ -21,7 +21,7 @@ keywords =
 
 -- the words that stand behind a dollar sign
 unfoldable pub rule_words : List (List ℕ)
-rule_words = codes "in" ∷ codes "out" ∷ codes "base" ∷ codes "oldsym" ∷ codes "xform" ∷ []
+rule_words = codes "in" ∷ codes "out" ∷ codes "base" ∷ codes "oldsym" ∷ codes "xform" ∷ codes "new" ∷ []
 
 unfoldable pub signs_of_two : List (List ℕ)
 signs_of_two =

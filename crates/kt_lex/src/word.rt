@@ -31,7 +31,7 @@ const KEYWORDS: [&[u8]; 23] = [
     b"INIT",
 ];
 
-const RULE_WORDS: [&[u8]; 5] = [b"in", b"out", b"base", b"oldsym", b"xform"];
+const RULE_WORDS: [&[u8]; 6] = [b"in", b"out", b"base", b"oldsym", b"xform", b"new"];
 
 const SIGNS_OF_TWO: [&[u8]; 15] = [
     b"->", b"::", b"==", b"!=", b"<=", b">=", b"++", b"--", b"+=", b"-=", b"*=", b"/=", b"%=",

@@ -6,14 +6,21 @@ use Rattle.std.proofs.lemmas.List.{take_all}
 use Rattle.std.proofs.lemmas.Bool.Decides.{nat_tests}
 use Rattle.std.proofs.lemmas.Option.{none-some, same_Some, slice_get_read}
 use mathlib.Core.Path.{fun_ext}
+use Rattle.kt_types.specs.declared.kinds.Ty.{Ty}
 use Rattle.kt_types.specs.declared.kinds.Ty.TheVariants as ty
+use Rattle.kt_types.specs.Layout.{cells}
 use Rattle.kt_mem.specs.declared.memory.Name.{Name}
 use Rattle.kt_mem.specs.declared.memory.Name.TheVariants.{Glob, Lit, Heap}
-use Rattle.kt_mem.specs.Memory.{Memory, Object, no_objects, put}
-use Rattle.kt_flat.specs.Heap.{with_object}
+use Rattle.kt_mem.specs.declared.memory.Value.{Value}
+use Rattle.kt_mem.specs.declared.memory.Value.TheVariants.{Num, Null, Ptr, Free, Held, Undef}
+use Rattle.kt_mem.specs.Memory.{Memory, Object, Cell, no_objects, put, repeated, zero_value}
+use Rattle.kt_heap.specs.ByNumber.{Pairs, value_by_number, cell_by_number, object_by_number, object_named, by_number, WasGiven, HoldsGiven}
+use Rattle.kt_heap.specs.Heap.{with_object}
 use Rattle.kt_tree.specs.declared.global.GlobalDecl.{GlobalDecl}
+use Rattle.kt_tree.specs.declared.global.Init.{Init}
+use Rattle.kt_tree.specs.declared.global.Init.TheVariants as init
 use Rattle.kt_tree.specs.Version.{Program, IsProgram, IsGlobal}
-use Rattle.kt_lone.specs.Update.{char_cell, first_memory, first_object, global_object, literal_object}
+use Rattle.kt_lone.specs.Update.{initial_cell, char_cell, first_memory, first_object, global_object, literal_object}
 use Rattle.kt_machine.specs.Outside.{HasCharLiterals}
 
 -- ---- one element more of a list
@@ -150,3 +157,92 @@ get-all P (x ∷ gs) (suc i) g all at = get-all P gs i g all.1 at
 
 pub global-is : (p : Program) → IsProgram p → (i : ℕ) (g : GlobalDecl) → slice_get p.globals i ≡ Some g → IsGlobal p g
 global-is p h i g at = get-all (IsGlobal p) p.globals i g h.globals at
+
+-- ---- no heap object, and no pointer to one
+
+module _ (ps : Pairs) where
+  abbrev AllGiven : List Cell → Type 0
+  AllGiven cs = (k : ℕ) (c : Cell) → slice_get cs k ≡ Some c → WasGiven ps c.value
+
+  none-given : AllGiven []
+  none-given k c e = absurd (none-some c e)
+
+  more-given : (c : Cell) (cs : List Cell) → WasGiven ps c.value → AllGiven cs → AllGiven (c ∷ cs)
+  more-given c cs h a zero d e = subst (λ (x : Cell). WasGiven ps x.value) (same_Some c d e) h
+  more-given c cs h a (suc k) d e = a k d e
+
+  both-given : (cs ds : List Cell) → AllGiven cs → AllGiven ds → AllGiven (cs ++ ds)
+  both-given [] ds a b = b
+  both-given (c ∷ cs) ds a b = more-given c (cs ++ ds) (a 0 c refl) (both-given cs ds (λ k d e. a (suc k) d e) b)
+
+  repeated-given : (n : ℕ) (cs : List Cell) → AllGiven cs → AllGiven (repeated n cs)
+  repeated-given zero cs a = none-given
+  repeated-given (suc n) cs a = both-given cs (repeated n cs) a (repeated-given n cs a)
+
+  zero-given : (t : Ty) → WasGiven ps (zero_value t)
+  zero-given ty.Char = tt
+  zero-given ty.Int = tt
+  zero-given ty.Long = tt
+  zero-given ty.Mutex = tt
+  zero-given (ty.Ptr e) = tt
+  zero-given (ty.Struct i) = tt
+  zero-given (ty.Array e n) = tt
+
+  initial-given : (v : ℕ) (i : Init) (t : Ty) → WasGiven ps (initial_cell v i t).value
+  initial-given v init.Zero t = zero-given t
+  initial-given v (init.Number n) t = tt
+  initial-given v init.Null t = tt
+  initial-given v (init.Literal n) t = tt
+  initial-given v init.Free t = tt
+
+  mapped-given : {X : Type 0} (f : X → Cell) → ((x : X) → WasGiven ps (f x).value) → (xs : List X) → AllGiven (map f xs)
+  mapped-given f h [] = none-given
+  mapped-given f h (x ∷ xs) = more-given (f x) (map f xs) (h x) (mapped-given f h xs)
+
+  module _ (v : ℕ) (p : Program) (o : Object) where
+    global-given : (g : Option GlobalDecl) → option_map (global_object v p.types) g ≡ Some o → AllGiven o.cells
+    global-given None e = absurd (none-some o e)
+    global-given (Some g) e =
+        subst (λ (x : Object). AllGiven x.cells) (same_Some (global_object v p.types g) o e)
+        (repeated-given g.count (map (initial_cell v g.init) (cells p.types g.ty)) (mapped-given (initial_cell v g.init) (initial-given v g.init) (cells p.types g.ty)))
+
+    literal-given : (b : Bool) (l : Option (List ℕ)) → cond b (option_map literal_object l) None ≡ Some o → AllGiven o.cells
+    literal-given true None e = absurd (none-some o e)
+    literal-given true (Some bytes) e =
+        subst (λ (x : Object). AllGiven x.cells) (same_Some (literal_object bytes) o e) (mapped-given char_cell (λ b. tt) (bytes ++ 0 ∷ []))
+    literal-given false l e = absurd (none-some o e)
+
+  pub first-holds : (v : ℕ) (p : Program) (next : ℕ) → HoldsGiven ps (first_memory v p next)
+  first-holds v p next (Glob i) o k c at there = global-given v p o (slice_get p.globals i) at k c there
+  first-holds v p next (Lit w i) o k c at there = literal-given v p o (w == v) (slice_get p.literals i) at k c there
+  first-holds v p next (Heap a) o k c at there = absurd (none-some o at)
+
+-- where nothing was given out, everything is the same by heap number
+value-same : (v : Value) → value_by_number [] v ≡ v
+value-same (Num z) = refl
+value-same Null = refl
+value-same (Ptr (Glob i) k) = refl
+value-same (Ptr (Lit v i) k) = refl
+value-same (Ptr (Heap a) k) = refl
+value-same Free = refl
+value-same (Held t) = refl
+value-same Undef = refl
+
+cells-same : (cs : List Cell) → map (cell_by_number []) cs ≡ cs
+cells-same [] = refl
+cells-same (c ∷ cs) = ap (λ (v : Value). record c { value = v } ∷ map (cell_by_number []) cs) (value-same c.value) ∙ ap (λ (ds : List Cell). c ∷ ds) (cells-same cs)
+
+object-same : (o : Option Object) → option_map (object_by_number []) o ≡ o
+object-same None = refl
+object-same (Some o) = ap (λ (cs : List Cell). Some (record o { cells = cs })) (cells-same o.cells)
+
+pub first-by : (v : ℕ) (p : Program) (next : ℕ) → by_number [] (first_memory v p next) ≡ first_memory v p next
+first-by v p next = λ k. record { at = same k; next = next; live = 0 }
+  where
+    objects : (n : Name) → option_map (object_by_number []) (object_named [] (first_object v p) n) ≡ first_object v p n
+    objects (Glob i) = object-same (first_object v p (Glob i))
+    objects (Lit w i) = object-same (first_object v p (Lit w i))
+    objects (Heap a) = refl
+
+    same : (by_number [] (first_memory v p next)).at ≡ first_object v p
+    same = fun_ext objects

@@ -1,12 +1,17 @@
 pub mod Acting
 pub mod Allocations
+pub mod ByAddress
 pub mod Closings
 pub mod Codes
+pub mod Entries
 pub mod FirstMemory
 pub mod Heads
+pub mod Keeping
 pub mod Lists
 pub mod MainEntry
 pub mod Memory
+pub mod Names
+pub mod Numbered
 pub mod Placed
 pub mod Printing
 pub mod RunLemmas
@@ -17,6 +22,7 @@ pub mod SameThreads
 pub mod SameTurns
 pub mod SameUpdates
 pub mod Starting
+pub mod Threads
 pub mod Trying
 pub mod Turning
 pub mod UnderWay

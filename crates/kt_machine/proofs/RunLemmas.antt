@@ -1,29 +1,32 @@
 -- The machine stands for the world of the turns that it has taken.
-use Rattle.std.specs.Prelude.{◌≡◌, ℕ, zero, suc, ◌+◌, ◌-◌, ◌<◌, ◌≤◌, ◌==◌, List, length, Some, None, Bool, true, false, ◌||◌, replicate, refl}
+use Rattle.std.specs.Prelude.{◌≡◌, ℕ, zero, suc, ◌+◌, ◌-◌, ◌<◌, ◌≤◌, ◌==◌, List, length, Option, Some, None, slice_get, Bool, true, false, ◌||◌, replicate, refl}
 use Rattle.std.proofs.Common.{arith, sym, subst, ap, ◌∙◌, inl, inr}
 use Rattle.std.proofs.lemmas.Bool.{false≢true, and_parts}
 use Rattle.std.proofs.lemmas.Bool.Decides.{eqb_tells}
 use Rattle.std.proofs.lemmas.List.{length-map}
+use Rattle.kt_meaning.specs.Laws.{IsShared}
 use Rattle.kt_meaning.specs.Thread as tree
 use Rattle.kt_code.specs.declared.private.Private.{Private}
+use Rattle.kt_heap.specs.Heap as heap
 use Rattle.kt_pair.specs.Pair.{Pair}
 use Rattle.kt_lone.specs.declared.mark.End.{End}
 use Rattle.kt_lone.specs.declared.mark.Mark.{Mark}
 use Rattle.kt_lone.specs.Job.{Job}
 use Rattle.kt_lone.specs.Laws.{AreTurnsOf}
-use Rattle.kt_lone.specs.Turn.{is_live, enabled_as, turn, first_world, world_from, world, tree_engine, MayTurn, MayTurnAll}
+use Rattle.kt_lone.specs.Turn.{act_of, acted, is_live, enabled_as, turn, first_world, world_from, world, tree_engine, MayTurn, MayTurnAll}
 use Rattle.kt_lone.specs.Typed.{IsTypedJob}
-use Rattle.kt_lone.specs.TypedWorlds.{settled-IsTypedWorld, world-settled}
-use Rattle.kt_lone.specs.World.{Shared, World}
+use Rattle.kt_lone.specs.TypedWorlds.{IsSettledWorld, settled-kept, settled-IsTypedWorld, world-settled}
+use Rattle.kt_lone.specs.World.{Shared, Thread, World, outside_of}
 use Rattle.kt_machine.specs.declared.machine.Machine.{Machine}
 use Rattle.kt_machine.specs.declared.machine.Standing as declared
 use Rattle.kt_machine.specs.declared.machine.Standing.TheVariants as standing
-use Rattle.kt_machine.specs.Engine.{code_engine, standing_of, thread_of, world_of, AreCodesOf, IsReady, IsSettled}
+use Rattle.kt_machine.specs.Acts.{turned}
+use Rattle.kt_machine.specs.Engine.{code_engine, pairs_of, standing_of, thread_of, without_ended, world_of, AreCodesOf, IsReady, IsSettled}
 use Rattle.kt_machine.specs.Report.{HasRun}
 use Rattle.kt_machine.specs.Same.{IsSameWorld}
 use Rattle.kt_machine.specs.Shared.{shared_of}
-use Rattle.kt_machine.proofs.SameRuns.{first-same, turn-same, enabled-same, ready}
-use Rattle.kt_machine.proofs.UnderWay.{IsOpen, first-open, first-turns, turn-open, turn-turns, worlds-version}
+use Rattle.kt_machine.proofs.SameRuns.{first-same, turned-same, enabled-same, ready}
+use Rattle.kt_machine.proofs.UnderWay.{IsOpen, first-open, first-turns, rest-open, rest-turns, worlds-version}
 
 -- the world after n turns of thread 0
 abbrev pub after : Job → ℕ → World tree.Thread
@@ -54,6 +57,17 @@ module _ (job : Job) where
       MayTurn (tree_engine job) (world_from (tree_engine job) job w (replicate n 0)) 0 → MayTurnAll (tree_engine job) job w (replicate (suc n) 0)
   may_turn-suc w zero all last = (last, tt)
   may_turn-suc w (suc n) all last = (all.0, may_turn-suc (turn (tree_engine job) job w 0) n all.1 last)
+
+-- ---- the act of a turn leaves typed memory, input and output
+
+acted-found : (job : Job) (typed : IsTypedJob job) (w : World tree.Thread) → MayTurn (tree_engine job) w 0 → IsSettledWorld job w →
+    (o : Option (Thread tree.Thread)) → slice_get w.threads 0 ≡ o → IsShared (outside_of (act_of (tree_engine job) job w 0 o).shared)
+acted-found job typed w may h None at = h.shared
+acted-found job typed w may h (Some th) at = ((settled-kept job typed).act w 0 th at may h).shared
+
+acted-typed : (job : Job) → IsTypedJob job → (w : World tree.Thread) → MayTurn (tree_engine job) w 0 → IsSettledWorld job w →
+    IsShared (outside_of (acted (tree_engine job) job w 0).shared)
+acted-typed job typed w may h = acted-found job typed w may h (slice_get w.threads 0) refl
 
 -- ---- small facts
 
@@ -106,41 +120,42 @@ module _ (job : Job) (codes : List Pair) (are : AreCodesOf job codes) (typed : I
       may_turn =
           (enabled-same job codes are typed (after job m.shared.turns) (world_of m) 0 r.stands ∙ enabled, ap (λ (s : Shared). s.ended) r.stands.shared ∙ on)
 
-      pub is_ready : IsReady job m
-      is_ready =
+      pub is_ready : heap.AreOneToOne (pairs_of m) → IsReady job codes m
+      is_ready once =
           let w = after job m.shared.turns in
-          ready job codes are typed w m r.stands
-          (settled-IsTypedWorld job w (world-settled job typed (replicate m.shared.turns 0) r.may_turn)) live r.settled
+          let settled = world-settled job typed (replicate m.shared.turns 0) r.may_turn in
+          ready job codes are typed w m once r.stands (settled-IsTypedWorld job w settled) (acted-typed job typed w may_turn settled) may_turn live r.settled
 
       -- the world after one turn more
-      reached : (m' : Machine) → world_of m' ≡ turn (code_engine codes) job (world_of m) 0 → IsSettled codes m' →
+      reached : (m' : Machine) → world_of m' ≡ turned (code_engine codes) job (world_of m) → IsSettled codes m' →
           HasReached job codes m' (suc m.shared.turns)
       reached m' now settled =
           let n = m.shared.turns in
           let first = first_world (tree_engine job) job in
           let few = few-left in
           let turns : m'.shared.turns ≡ n + 1 =
-          ap (λ (w : World Private). w.shared.turns) now ∙ turn-turns (code_engine codes) job (world_of m) 0 in
+          ap (λ (w : World Private). w.shared.turns) now
+          ∙ rest-turns (code_engine codes) job (world_of m) (without_ended (acted (code_engine codes) job (world_of m) 0)) 0 refl in
           record {
             may_turn = may_turn-suc job first n r.may_turn may_turn;
             stands =
                 subst (λ (w : World tree.Thread). IsSameWorld codes w (world_of m')) (sym (after-suc job first n))
                 (subst (λ (v : World Private). IsSameWorld codes (turn (tree_engine job) job (after job n) 0) v) (sym now)
-                (turn-same job codes are typed (after job n) (world_of m) 0 r.stands
+                (turned-same job codes are typed (after job n) (world_of m) r.stands
                 (world-settled job typed (replicate n 0) r.may_turn).shared may_turn));
             settled = settled;
-            going = subst (IsOpen (code_engine codes) job) (sym now) (turn-open (code_engine codes) job (world_of m) 0);
+            going = subst (IsOpen (code_engine codes) job) (sym now) (rest-open (code_engine codes) job (without_ended (acted (code_engine codes) job (world_of m) 0)));
             turns = omega arith;
             few = omega arith;
           }
 
-      pub turned : (m' : Machine) → world_of m' ≡ turn (code_engine codes) job (world_of m) 0 → IsSettled codes m' → IsUnderWay job codes m'
-      turned m' now settled =
+      pub under-way : (m' : Machine) → world_of m' ≡ turned (code_engine codes) job (world_of m) → IsSettled codes m' → IsUnderWay job codes m'
+      under-way m' now settled =
           let k = reached m' now settled in
           subst (HasReached job codes m') (sym k.turns) k
 
       -- fewer turns are left
-      pub nearer : (m' : Machine) → world_of m' ≡ turn (code_engine codes) job (world_of m) 0 → IsSettled codes m' →
+      pub nearer : (m' : Machine) → world_of m' ≡ turned (code_engine codes) job (world_of m) → IsSettled codes m' →
           job.budget - m'.shared.turns < job.budget - m.shared.turns
       nearer m' now settled =
           let turns = (reached m' now settled).turns in

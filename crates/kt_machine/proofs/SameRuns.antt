@@ -1,5 +1,5 @@
 -- The same turns make worlds of the tree and of code that stand for one another; and a machine's turns may be taken.
-use Rattle.std.specs.Prelude.{◌≡◌, ℕ, false, List, [], ◌∷◌, Option, Some, None, slice_get}
+use Rattle.std.specs.Prelude.{◌≡◌, ℕ, false, List, [], ◌∷◌, map, Option, Some, None, slice_get}
 use Rattle.std.specs.List.{All}
 use Rattle.std.proofs.Common.{subst, ap, ◌∙◌, arith}
 use Rattle.kt_types.specs.Table.{Table}
@@ -19,22 +19,27 @@ use Rattle.kt_code.specs.Settling.{head_of}
 use Rattle.kt_code.specs.declared.private.Head.{Head}
 use Rattle.kt_code.specs.declared.private.Head.TheVariants as head
 use Rattle.kt_code.specs.declared.private.Private.{Private}
+use Rattle.kt_heap.specs.Heap as heap
+use Rattle.kt_heap.specs.ByNumber.{Pairs}
 use Rattle.kt_pair.specs.Pair.{Pair}
 use Rattle.kt_lone.specs.Job.{Job, version_at, types_at, types_of}
 use Rattle.kt_lone.specs.Laws.{AreTurnsOf}
-use Rattle.kt_lone.specs.Turn.{has_ended, is_enabled, turn, first_world, world, world_from, MayTurn, MayTurnAll, tree_step, tree_engine}
+use Rattle.kt_lone.specs.Turn.{acted, has_ended, is_enabled, turn, first_world, world, world_from, MayTurn, MayTurnAll, tree_step, tree_engine}
 use Rattle.kt_lone.specs.Typed.{IsTypedJob, IsTypedWorld, IsThreadOf, IsTypedThread}
 use Rattle.kt_lone.specs.TypedThreads.{IsProgramIf}
 use Rattle.kt_lone.specs.TypedWorlds.{IsSettledWorld, first_world-settled, turn-settled}
-use Rattle.kt_lone.specs.World.{Live, Shared, Thread, World, outside_of}
+use Rattle.kt_lone.specs.World.{Standing, Live, Parked, Ended, Shared, Thread, World, outside_of}
 use Rattle.kt_machine.specs.declared.machine.Machine.{Machine}
 use Rattle.kt_machine.specs.declared.machine.Standing.TheVariants as standing
-use Rattle.kt_machine.specs.Engine.{code_step, code_engine, AreCodesOf, standing_of, thread_of, world_of, IsSettled, IsCompleteHead, IsReady}
+use Rattle.kt_machine.specs.Acts.{step_of, turned}
+use Rattle.kt_machine.specs.ByNumber.{head_by, private_by}
+use Rattle.kt_machine.specs.Engine.{code_step, code_engine, AreCodesOf, left_thread, left_to, pairs_of, standing_of, thread_of, without_ended, world_of, IsSettled, IsCompleteHead, IsReady}
 use Rattle.kt_machine.specs.Outside.{IsComplete}
 use Rattle.kt_machine.specs.Same.{IsSameBy, IsSameThread, AreSameThreads, IsSameWorld}
 use Rattle.kt_machine.proofs.Heads.{IsPlaced, step-placed}
 use Rattle.kt_machine.proofs.SameEngines.{engines-same, is-program}
 use Rattle.kt_machine.proofs.SameTurns as turns
+use Rattle.kt_machine.proofs.Threads.{head-stands}
 
 module _ (job : Job) (codes : List Pair) (are : AreCodesOf job codes) (typed : IsTypedJob job) where
   -- the worlds before the first turn
@@ -52,6 +57,42 @@ module _ (job : Job) (codes : List Pair) (are : AreCodesOf job codes) (typed : I
       MayTurn (tree_engine job) w t → IsSameWorld codes (turn (tree_engine job) job w t) (turn (code_engine codes) job v t)
   turn-same w v t h shared may =
       turns.turn-same (tree_engine job) (code_engine codes) (λ n. IsSameBy n (slice_get codes n)) job (engines-same job codes are typed) w v t h shared may
+
+  -- a turn of thread 0 behind which nothing is kept of threads that have ended
+  left-same : (v : ℕ) (c : Option Pair) (standing : Standing) (x : tree.Thread) (y : Private) → IsSameBy v c standing x y →
+      IsSameBy v c standing x (left_to standing y)
+  left-same v c Live x y h = h
+  left-same v c Parked x y h = h
+  left-same v c Ended x y h = h
+
+  left-thread : (v : ℕ) (c : Option Pair) (a : Thread tree.Thread) (b : Thread Private) → IsSameThread (IsSameBy v c) a b → IsSameThread (IsSameBy v c) a (left_thread b)
+  left-thread v c a b h = record {
+    standing = h.standing;
+    state = subst (λ s. IsSameBy v c a.standing a.state (left_to s b.state)) h.standing (left-same v c a.standing a.state b.state h.state);
+  }
+
+  left-threads : (v : ℕ) (c : Option Pair) (l : List (Thread tree.Thread)) (m : List (Thread Private)) → AreSameThreads (IsSameBy v c) l m →
+      AreSameThreads (IsSameBy v c) l (map left_thread m)
+  left-threads v c [] [] h = tt
+  left-threads v c [] (b ∷ m) h = absurd h
+  left-threads v c (a ∷ l) [] h = absurd h
+  left-threads v c (a ∷ l) (b ∷ m) h = (left-thread v c a b h.0, left-threads v c l m h.1)
+
+  without-same : (w : World tree.Thread) (v : World Private) → IsSameWorld codes w v → IsSameWorld codes w (without_ended v)
+  without-same w v h = record { shared = h.shared; threads = left-threads w.shared.version (slice_get codes w.shared.version) w.threads v.threads h.threads }
+
+  -- what both share after an act
+  pub acted-same : (w : World tree.Thread) (v : World Private) (t : ℕ) → IsSameWorld codes w v → IsShared (outside_of w.shared) →
+      MayTurn (tree_engine job) w t → IsSameWorld codes (acted (tree_engine job) job w t) (acted (code_engine codes) job v t)
+  acted-same w v t h shared may =
+      turns.act-same (tree_engine job) (code_engine codes) (λ n. IsSameBy n (slice_get codes n)) job (engines-same job codes are typed) w v t h shared may
+
+  pub turned-same : (w : World tree.Thread) (v : World Private) → IsSameWorld codes w v → IsShared (outside_of w.shared) →
+      MayTurn (tree_engine job) w 0 → IsSameWorld codes (turn (tree_engine job) job w 0) (turned (code_engine codes) job v)
+  turned-same w v h shared may =
+      turns.rest-same (tree_engine job) (code_engine codes) (λ n. IsSameBy n (slice_get codes n)) job (engines-same job codes are typed)
+      (acted (tree_engine job) job w 0) (without_ended (acted (code_engine codes) job v 0))
+      (without-same (acted (tree_engine job) job w 0) (acted (code_engine codes) job v 0) (acted-same w v 0 h shared may))
 
   -- all turns of a list
   pub from-same : (list : List ℕ) (w : World tree.Thread) (v : World Private) → IsSameWorld codes w v → IsSettledWorld job w →
@@ -114,6 +155,12 @@ complete-in v None program x i j h same last is = trap-complete (types_of None) 
 complete-in v (Some p) program x i j h same last is =
     head-complete p (tree_step v (Some p) x) j h (step-Keeps (numbered p v) program x i) same last is
 
+-- what is allocated is no heap name
+own-complete : (ps : Pairs) (types : Table) (h : Head) → IsCompleteHead types (head_by ps h) → IsCompleteHead types h
+own-complete ps types (head.Act (act.Allocate e n zeros)) h = h
+own-complete ps types (head.Act a) h = tt
+own-complete ps types (head.Trap t) h = tt
+
 first-of : {X : Type 0} (P : X → Type 0) (x : X) (xs : List X) → All P (x ∷ xs) → P x
 first-of P x xs all = all 0 x (omega arith)
 
@@ -139,15 +186,18 @@ module _ (job : Job) (codes : List Pair) (are : AreCodesOf job codes) (typed : I
       lives-complete v th b h same.0 (first-of (λ (th : Thread tree.Thread). IsTypedThread (version_at job v) th.standing th.state) th rest all) live last is
 
   -- what the turns of a machine ask of it, where its thread lives
-  pub ready : (w : World tree.Thread) (m : Machine) → IsSameWorld codes w (world_of m) → IsTypedWorld job w → m.standing ≡ standing.Live →
-      IsSettled codes m → IsReady job m
-  ready w m h world live settled =
-      let stands = settled.stands (ap (λ s. has_ended (standing_of s)) live) in
-      let step = code_step (slice_get codes m.shared.version) m.private in
+  pub ready : (w : World tree.Thread) (m : Machine) → heap.AreOneToOne (pairs_of m) → IsSameWorld codes w (world_of m) → IsTypedWorld job w →
+      IsShared (outside_of (acted (tree_engine job) job w 0).shared) → MayTurn (tree_engine job) w 0 → m.standing ≡ standing.Live → IsSettled codes m → IsReady job codes m
+  ready w m once h world after may live settled =
+      let on = ap (λ s. has_ended (standing_of s)) live in
+      let step = step_of codes m in
       record {
         shared = subst (λ (s : Shared). IsShared (outside_of s)) h.shared world.shared;
-        complete = alone-complete m.shared.version w.threads (thread_of m) m.head
+        after = subst (λ (s : Shared). IsShared (outside_of s)) (acted-same job codes are typed w (world_of m) 0 h world.shared may).shared after;
+        complete = own-complete (pairs_of m) (types_at job m.shared.version) m.head
+            (alone-complete m.shared.version w.threads (thread_of m) (head_by (pairs_of m) m.head)
             (subst (λ (s : Shared). AreSameThreads (IsSameBy s.version (slice_get codes s.version)) w.threads (thread_of m ∷ [])) h.shared h.threads)
             (subst (λ (s : Shared). All (λ (th : Thread tree.Thread). IsTypedThread (version_at job s.version) th.standing th.state) w.threads) h.shared world.threads)
-            (ap standing_of live) (placed-last step (step-placed (slice_get codes m.shared.version) m.private)) stands.head;
+            (ap standing_of live) (placed-last step (step-placed (slice_get codes m.shared.version) (private_by (pairs_of m) m.private)))
+            (head-stands codes m once settled on));
       }

@@ -23,7 +23,7 @@ use Rattle.kt_lone.specs.declared.mark.Phase.{Phase}
 use Rattle.kt_lone.specs.declared.mark.Phase.TheVariants.{Run, Asked, Main, Others}
 use Rattle.kt_lone.specs.Job.{Job, version_at, types_at}
 use Rattle.kt_lone.specs.SharedLaws.{with_mark-keeps, asked-keeps, spent-keeps}
-use Rattle.kt_lone.specs.Turn.{answered, at_point, migrated, elsewhere, on_outcome, ends, effect, act_of, acted, is_enabled, enabled_if, any_enabled, ongoing, on_shared, with_mark, main_is_normal, all_normal, all_parked, main_there, all_back, closed_up, asked, stuck, spent, before_turn, after_act, turn, start, first_world, MayTurn}
+use Rattle.kt_lone.specs.Turn.{answered, at_point, migrated, elsewhere, on_outcome, ends, effect, act_of, acted, is_enabled, enabled_if, any_enabled, ongoing, on_shared, with_mark, main_is_normal, all_normal, all_parked, main_there, all_back, closed_up, asked, stuck, spent, before_turn, after_act, counted, turn, start, first_world, MayTurn}
 use Rattle.kt_lone.specs.TypedThreads.{IsModeIf}
 use Rattle.kt_lone.specs.Update.{point_of}
 use Rattle.kt_lone.specs.World.{Engine, Standing, Live, Shared, Thread, World, outside_of, with_outside}
@@ -247,6 +247,14 @@ module _ {X Y : Type 0} (e : Engine X) (f : Engine Y) (S : ℕ → Standing → 
   pub is_enabled-same : (w : World X) (v : World Y) (t : ℕ) → AreSameWorlds S w v → is_enabled e w t ≡ is_enabled f v t
   is_enabled-same w v t h = on_same (λ w v. is_enabled e w t ≡ is_enabled f v t)
       (λ s l m h. enabled_if-same e f S job engines s t (slice_get l t) (slice_get m t) (slice_get-same (S s.version) l m t h)) w v h
+
+  -- the act, and behind it a world that stands for the one that it leaves
+  pub act-same : (w : World X) (v : World Y) (t : ℕ) → AreSameWorlds S w v → IsShared (outside_of w.shared) → MayTurn e w t →
+      AreSameWorlds S (acted e job w t) (acted f job v t)
+  act-same w v t h typed may = acted-same t w v h typed may.0
+
+  pub rest-same : (w : World X) (v : World Y) → AreSameWorlds S w v → AreSameWorlds S (after_act e job (counted w)) (after_act f job (counted v))
+  rest-same w v h = after_act-same _ _ (on_shared-same (λ s. record s { turns = s.turns + 1 }) (λ s. refl) w v h)
 
   pub turn-same : (w : World X) (v : World Y) (t : ℕ) → AreSameWorlds S w v → IsShared (outside_of w.shared) → MayTurn e w t →
       AreSameWorlds S (turn e job w t) (turn f job v t)

@@ -206,6 +206,11 @@ module _ {X : Type 0} (e : Engine X) (job : Job) where
       (after_act-counts (counted (acted e job w t))).turns
       ∙ ap (λ n. n + 1) (act_of-acted e job w t (slice_get w.threads t)).turns
 
+  -- where these are the turns after the act
+  pub rest-turns : (w v : World X) (t : ℕ) → v.shared.turns ≡ (acted e job w t).shared.turns → (after_act e job (counted v)).shared.turns ≡ w.shared.turns + 1
+  rest-turns w v t e_turns =
+      (after_act-counts (counted v)).turns ∙ ap (λ n. n + 1) (e_turns ∙ (act_of-acted e job w t (slice_get w.threads t)).turns)
+
 -- ---- where the run goes on
 
 -- some thread may take a turn, and the budget is not used up
@@ -249,6 +254,10 @@ module _ {X : Type 0} (e : Engine X) (job : Job) where
       let b = ongoing (λ (u : World X). main_there e u.shared.phase u) a in
       let c = ongoing (λ (u : World X). all_back e u.shared.phase u) b in
       before_turn-open (ongoing (λ (u : World X). closed_up e job u.shared.phase u) c)
+
+  -- behind an act that any world stands for
+  pub rest-open : (w : World X) → IsOpen (after_act e job (counted w))
+  rest-open w = after_act-open (counted w)
 
   pub turn-open : (w : World X) (t : ℕ) → IsOpen (turn e job w t)
   turn-open w t = after_act-open (counted (acted e job w t))

@@ -14,16 +14,19 @@ use Rattle.kt_code.specs.Settling as settling
 use Rattle.kt_code.specs.declared.private.Head.{Head}
 use Rattle.kt_code.specs.declared.private.Head.TheVariants as head
 use Rattle.kt_code.specs.declared.private.Private.{Private}
+use Rattle.kt_heap.specs.ByNumber.{Pairs}
+use Rattle.kt_exec.specs.Renaming.{IsOld, PrivateIn}
 use Rattle.kt_pair.specs.Pair.{Pair}
 use Rattle.kt_pair.specs.VersionActs.{DoesVersion, FitsEntries, entry_state}
 use Rattle.kt_lone.specs.Job.{Job, types_at}
-use Rattle.kt_lone.specs.Turn.{has_ended, main_of, restart_in}
+use Rattle.kt_lone.specs.Turn.{acted, has_ended, main_of, restart_in}
 use Rattle.kt_lone.specs.World.{Engine, Standing, Thread, World, outside_of}
 use Rattle.kt_lone.specs.World as world
 use Rattle.kt_machine.specs.declared.machine.Machine.{Machine}
 use Rattle.kt_machine.specs.declared.machine.Standing as declared
 use Rattle.kt_machine.specs.declared.machine.Standing.TheVariants as standing
-use Rattle.kt_machine.specs.Outside.{IsComplete}
+use Rattle.kt_machine.specs.ByNumber.{private_by}
+use Rattle.kt_machine.specs.Outside.{IsComplete, pairs_in}
 use Rattle.kt_machine.specs.Shared.{shared_of}
 
 -- ---- the engine
@@ -73,17 +76,33 @@ pub record AreCodesOf (job : Job) (codes : List Pair) : Type 0 where
 
 -- ---- a machine as a world
 
+-- each address that was given out, and the heap number of its object
+abbrev pub pairs_of : Machine → Pairs
+pairs_of m = pairs_in m.shared.outside
+
 abbrev pub standing_of : declared.Standing → Standing
 standing_of standing.Live = world.Live
 standing_of standing.Parked = world.Parked
 standing_of standing.Ended = world.Ended
 
--- the one thread of a machine
+-- the one thread of a machine, by heap number
 abbrev pub thread_of : Machine → Thread Private
-thread_of m = record { state = m.private; standing = standing_of m.standing }
+thread_of m = record { state = private_by (pairs_of m) m.private; standing = standing_of m.standing }
 
 abbrev pub world_of : Machine → World Private
 world_of m = record { shared = shared_of m.shared; threads = thread_of m ∷ [] }
+
+-- of a thread that has ended nothing is kept but its version and its mode
+abbrev pub left_to : Standing → Private → Private
+left_to world.Live x = x
+left_to world.Parked x = x
+left_to world.Ended x = no_frames x.version x.mode
+
+abbrev pub left_thread : Thread Private → Thread Private
+left_thread th = record { state = left_to th.standing th.state; standing = th.standing }
+
+abbrev pub without_ended : World Private → World Private
+without_ended w = record w { threads = map left_thread w.threads }
 
 -- the thread has taken its quiet steps and stands at this head, and its state fits its code
 pub record StandsAt (c : Option Pair) (x : Private) (h : Head) : Type 0 where
@@ -95,16 +114,21 @@ abbrev pub IsPointHead : Head → Type 0
 IsPointHead (head.Act (act.Point p)) = Unit {0}
 IsPointHead h = ⊥
 
--- what a machine's thread stands at is what it keeps, unless the thread has ended; where it is parked, that is a point
+-- what a machine's thread stands at is what it keeps, unless the thread has ended; where it is parked, that is a point; each
+-- address in its state was given out; of a thread that has ended nothing else is kept
 pub record IsSettled (codes : List Pair) (m : Machine) : Type 0 where
   pub stands : has_ended (standing_of m.standing) ≡ false → StandsAt (slice_get codes m.shared.version) m.private m.head
   pub parked : m.standing ≡ standing.Parked → IsPointHead m.head
+  pub names : PrivateIn (IsOld (pairs_of m)) m.private
+  pub ended : m.standing ≡ standing.Ended → m.private ≡ no_frames m.private.version m.private.mode
 
 abbrev pub IsCompleteHead : Table → Head → Type 0
 IsCompleteHead types (head.Act a) = IsComplete types a
 IsCompleteHead types (head.Trap t) = Unit {0}
 
--- what its turns ask of a machine: typed memory, input and output, and what it allocates is complete
-pub record IsReady (job : Job) (m : Machine) : Type 0 where
+-- what its turns ask of a machine: typed memory, input and output, before its act and after it, and what it allocates is
+-- complete
+pub record IsReady (job : Job) (codes : List Pair) (m : Machine) : Type 0 where
   pub shared : IsShared (outside_of (shared_of m.shared))
+  pub after : IsShared (outside_of (acted (code_engine codes) job (world_of m) 0).shared)
   pub complete : IsCompleteHead (types_at job m.shared.version) m.head

@@ -1,3 +1,4 @@
+pub mod ByNumber
 pub mod Outside
 pub mod Printing
 pub mod Shared

@@ -1,12 +1,11 @@
 -- What threads share, as the machine keeps it.
 use Rattle.std.specs.Prelude.{ℕ, List, Option}
 use Rattle.kt_mem.specs.declared.memory.Value.{Value}
-use Rattle.kt_flat.specs.Heap.{memory}
 use Rattle.kt_lone.specs.declared.mark.End.{End}
 use Rattle.kt_lone.specs.declared.mark.Mark.{Mark}
 use Rattle.kt_lone.specs.declared.mark.Phase.{Phase}
 use Rattle.kt_lone.specs.World as world
-use Rattle.kt_machine.specs.Outside.{Outside}
+use Rattle.kt_machine.specs.Outside.{Outside, shown}
 
 pub record Shared : Type 0 where
   pub version : ℕ
@@ -23,7 +22,7 @@ pub record Shared : Type 0 where
 abbrev pub shared_of : Shared → world.Shared
 shared_of s = record {
   version = s.version;
-  memory = memory s.outside.heap;
+  memory = (shown s.outside).memory;
   kept = s.kept;
   phase = s.phase;
   after = s.after;

@@ -1,6 +1,7 @@
 //! Acts: what a turn does first.
 
 use crate::effects::Outcome;
+use crate::entry::no_frames;
 use crate::machine::{Machine, Standing, in_force};
 use kt_code::{Code, Head};
 use kt_exec::{answer, settle};
@@ -20,9 +21,11 @@ impl Machine {
     ghost use Rattle.kt_code.specs.Settling as settling;
     ghost use Rattle.kt_lone.specs.Plain.{job_of};
     ghost use Rattle.kt_lone.specs.Turn as plain_turn;
-    ghost use Rattle.kt_machine.specs.Acts.{KeepsPlace, MayReply, elsewhere_at, outcome_at, step_of};
-    ghost use Rattle.kt_machine.specs.Engine.{code_engine, thread_of, world_of, AreCodesOf, IsCompleteHead, IsPointHead, IsReady, IsSettled, StandsAt};
-    ghost use Rattle.kt_machine.specs.Outside.{outcome_of, shown};
+    ghost use Rattle.kt_exec.specs.Renaming.{HeadIn, IsOld, ReplyIn};
+    ghost use Rattle.kt_machine.specs.Acts.{KeepsPlace, MayReply, elsewhere_at, left_at, outcome_at, own_step};
+    ghost use Rattle.kt_machine.specs.ByNumber.{head_by, reply_by, Grows};
+    ghost use Rattle.kt_machine.specs.Engine.{code_engine, no_frames, pairs_of, thread_of, without_ended, world_of, AreCodesOf, IsCompleteHead, IsPointHead, IsReady, IsSettled, StandsAt};
+    ghost use Rattle.kt_machine.specs.Outside.{outcome_of, shown, OutcomeIn};
     ghost use Rattle.kt_machine.specs.Shared.{shared_of};
 
     /// The effect of what the thread stands at.
@@ -36,12 +39,13 @@ impl Machine {
         requires version { self.old.shared.version < length codes.now }
         requires live { self.old.standing ≡ Standing.Live }
         requires settled { IsSettled codes.now self.old }
-        requires ready { IsReady (job_of job.now) self.old }
-        ensures world { OnOk result (world_of self.new ≡ plain_turn.acted (code_engine codes.now) (job_of job.now) (world_of self.old) 0) }
+        requires ready { IsReady (job_of job.now) codes.now self.old }
+        ensures world { OnOk result (world_of self.new ≡ without_ended (plain_turn.acted (code_engine codes.now) (job_of job.now) (world_of self.old) 0)) }
         ensures settled { OnOk result (IsSettled codes.now self.new) }
         ensures place { OnOk result (KeepsPlace self.old self.new) }
     {
         effect_law();
+        self.law();
         let types = in_force(codes, self.shared.version()).version().types();
         match self.outcome(alloc, types)? {
             Outcome::Replies(reply) => self.reply(alloc, codes, reply),
@@ -52,10 +56,13 @@ impl Machine {
 
     // What becomes of what the thread stands at.
     fn outcome(&mut self, alloc: Global, types: &TypeTable) -> Result<Outcome, AllocError>
-        requires { IsCompleteHead types.now self.old.head }
-        ensures outcome { IfOk result (λ o. outcome_at types.now self.old.head (shown self.old.shared.outside) ≡ outcome_of o (shown self.new.shared.outside)) }
+        requires complete { IsCompleteHead types.now self.old.head }
+        requires names { HeadIn (IsOld (pairs_of self.old)) (Some self.old.head) }
+        ensures outcome { IfOk result (λ o. outcome_at types.now (head_by (pairs_of self.old) self.old.head) (shown self.old.shared.outside) ≡ outcome_of (pairs_of self.new) o (shown self.new.shared.outside)) }
         ensures kept { IfOk result (λ o. (o ≡ Outcome.Waits → shown self.new.shared.outside ≡ shown self.old.shared.outside)
             × (o ≡ Outcome.Elsewhere → shown self.new.shared.outside ≡ shown self.old.shared.outside)) }
+        ensures names { IfOk result (λ o. OutcomeIn (IsOld (pairs_of self.new)) o) }
+        ensures grows { OnOk result (Grows (pairs_of self.old) (pairs_of self.new)) }
         ensures machine { self.new ≡ record self.old { shared = record self.old.shared { outside = self.new.shared.outside } } }
     {
         match &self.head {
@@ -69,12 +76,14 @@ impl Machine {
         requires version { self.old.shared.version < length codes.now }
         requires live { self.old.standing ≡ Standing.Live }
         requires settled { IsSettled codes.now self.old }
-        requires reply { MayReply (step_of codes.now self.old) reply }
+        requires reply { MayReply (own_step codes.now self.old) reply }
+        requires names { ReplyIn (IsOld (pairs_of self.old)) reply }
         ensures world { OnOk result (world_of self.new ≡
-            plain_turn.answered (code_engine codes.now) (world_of self.old) 0 (thread_of self.old) (shared_of self.old.shared) reply) }
+            plain_turn.answered (code_engine codes.now) (world_of self.old) 0 (thread_of self.old) (shared_of self.old.shared) (reply_by (pairs_of self.old) reply)) }
         ensures settled { OnOk result (IsSettled codes.now self.new) }
         ensures place { OnOk result (KeepsPlace self.old self.new) }
     {
+        self.law();
         match reply {
             Reply::Trapped(cause) => {
                 self.shared.end(End::Trap(0, cause));
@@ -113,7 +122,7 @@ impl Machine {
         requires version { self.old.shared.version < length codes.now }
         requires live { self.old.standing ≡ Standing.Live }
         requires settled { IsSettled codes.now self.old }
-        ensures world { OnOk result (world_of self.new ≡ elsewhere_at (code_engine codes.now) (world_of self.old) (thread_of self.old) self.old.head) }
+        ensures world { OnOk result (world_of self.new ≡ left_at self.old.head (elsewhere_at (code_engine codes.now) (world_of self.old) (thread_of self.old) self.old.head)) }
         ensures settled { OnOk result (IsSettled codes.now self.new) }
         ensures place { OnOk result (KeepsPlace self.old self.new) }
     {
@@ -124,7 +133,7 @@ impl Machine {
                 Act::Point(_) => self.come_to_point(alloc, codes),
                 Act::Automigrate => self.automigrate(alloc, codes),
                 Act::ThreadEnd => {
-                    self.standing = Standing::Ended;
+                    self.end_thread(alloc);
                     Ok(())
                 }
                 Act::MainReturn(value) => {
@@ -136,6 +145,17 @@ impl Machine {
             },
             Head::Trap(_) => Ok(()),
         }
+    }
+
+    // The thread has ended, and nothing is kept of its state but its version and its mode.
+    fn end_thread(&mut self, alloc: Global)
+        ensures { self.new ≡ record self.old {
+          private = no_frames self.old.private.version self.old.private.mode;
+          standing = Standing.Ended;
+        } }
+    {
+        self.private = no_frames(alloc, self.private.version, self.private.mode);
+        self.standing = Standing::Ended;
     }
 
     // A thread on its way nowhere parks where an update is asked for; one on its way to this point has come there.
@@ -176,6 +196,7 @@ impl Machine {
     // Kept values are placed where the thread is on its way.
     fn migrate(&mut self)
         ensures shared { shared_of self.new.shared ≡ plain_turn.migrated self.old.private.mode (shared_of self.old.shared) }
+        ensures pairs { pairs_of self.new ≡ pairs_of self.old }
         ensures thread { self.new ≡ record self.old { shared = self.new.shared } }
     {
         match self.private.mode {

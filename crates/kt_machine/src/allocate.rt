@@ -1,14 +1,17 @@
 //! Allocations.
 ghost use Rattle.std.specs.Prelude.{◌≡◌, ◌≤◌, pos, length, true, Bool, IfOk, IfSome, List, OnOk, ℕ};
 ghost use Rattle.std.specs.Option.{is_some};
-ghost use Rattle.kt_flat.specs.Heap.{memory};
+ghost use Rattle.kt_heap.specs.ByNumber.{by_number, HoldsGiven};
+ghost use Rattle.kt_heap.specs.Heap.{memory, given};
+ghost use Rattle.kt_exec.specs.Renaming.{IsOld, ReplyIn};
 ghost use Rattle.kt_meaning.specs.Effects as plain;
 ghost use Rattle.kt_mem.specs.Memory as mem;
 ghost use Rattle.kt_types.specs.Layout.{cells, layout};
 ghost use Rattle.kt_types.specs.declared.kinds.Ty.{Ty as CellType};
+ghost use Rattle.kt_machine.specs.ByNumber.{reply_by, Grows};
 ghost use Rattle.kt_machine.specs.Outside.{KeepsLiterals};
 
-use kt_flat::{AllocFault, Heap};
+use kt_heap::{AllocFault, Heap};
 use kt_mem::{Name, Reply, Trap, Value};
 use kt_types::{Ty, TypeTable};
 use std::alloc::{AllocError, Global};
@@ -22,10 +25,15 @@ pub(crate) fn allocate(
     count: i64,
     zero: bool,
 ) -> Result<Reply, AllocError>
-    requires { is_some (layout types.now ty) ≡ true }
-    ensures made { IfOk result (λ r. (s : plain.Shared) → plain.makes (record s { memory = memory heap.old }) (mem.alloc (memory heap.old) ty (cells types.now ty) count zero) ≡ plain.Replies r (record s { memory = memory heap.new })) }
+    requires complete { is_some (layout types.now ty) ≡ true }
+    requires holds { HoldsGiven (given heap.old) (memory heap.old) }
+    ensures made { IfOk result (λ r. (s : plain.Shared) → plain.makes (record s { memory = by_number (given heap.old) (memory heap.old) }) (mem.alloc (by_number (given heap.old) (memory heap.old)) ty (cells types.now ty) count zero) ≡ plain.Replies (reply_by (given heap.new) r) (record s { memory = by_number (given heap.new) (memory heap.new) })) }
+    ensures names { IfOk result (λ r. ReplyIn (IsOld (given heap.new)) r) }
     ensures literals { KeepsLiterals (memory heap.old) (memory heap.new) }
+    ensures holds { HoldsGiven (given heap.new) (memory heap.new) }
+    ensures grows { Grows (given heap.old) (given heap.new) }
 {
+    heap.law();
     let cells = cell_types(alloc, types, ty)?;
     let Some(count) = element_count(count) else {
         return Ok(Reply::Trapped(Trap::Size));

@@ -17,16 +17,17 @@ use kt_tree::Version;
 use std::alloc::{AllocError, Global};
 
 impl Machine {
-    ghost use Rattle.std.specs.Prelude.{◌≡◌, ◌+◌, ◌<◌, ◌≤◌, false, length, Some, slice_get, IfSome, OnOk, option_and_then};
+    ghost use Rattle.std.specs.Prelude.{◌≡◌, ◌+◌, ◌<◌, ◌≤◌, [], false, length, Some, slice_get, IfSome, OnOk, option_and_then};
+    ghost use Rattle.kt_meaning.specs.Laws.{IsShared};
     ghost use Rattle.kt_meaning.specs.ThreadTypes.{IsMode};
     ghost use Rattle.kt_lone.specs.Plain.{job_of};
+    ghost use Rattle.kt_lone.specs.World.{outside_of};
     ghost use Rattle.kt_lone.specs.Job as plain_job;
     ghost use Rattle.kt_lone.specs.Turn as plain_turn;
     ghost use Rattle.kt_lone.specs.Update as plain;
     ghost use Rattle.kt_lone.specs.World as plain_world;
-    ghost use Rattle.kt_machine.specs.Acts.{step_of};
     ghost use Rattle.kt_machine.specs.Closing.{old_point, with_restart};
-    ghost use Rattle.kt_machine.specs.Engine.{code_engine, code_entry, code_settle, standing_of, thread_of, world_of, AreCodesOf, IsSettled};
+    ghost use Rattle.kt_machine.specs.Engine.{code_engine, code_entry, code_settle, pairs_of, standing_of, thread_of, world_of, AreCodesOf, IsSettled};
     ghost use Rattle.kt_machine.specs.Shared.{shared_of};
 
     /// The closing, where an update is asked for and the thread is parked or has ended.
@@ -40,6 +41,7 @@ impl Machine {
         requires few { length codes.now ≤ 16 }
         requires version { self.old.shared.version < length codes.now }
         requires settled { IsSettled codes.now self.old }
+        requires shared { IsShared (outside_of (shared_of self.old.shared)) }
         ensures world { OnOk result (world_of self.new ≡
             plain_turn.ongoing (λ w. plain_turn.closed_up (code_engine codes.now) (job_of job.now) w.shared.phase w) (world_of self.old)) }
         ensures settled { OnOk result (IsSettled codes.now self.new) }
@@ -58,6 +60,7 @@ impl Machine {
         requires few { length codes.now ≤ 16 }
         requires version { self.old.shared.version < length codes.now }
         requires settled { IsSettled codes.now self.old }
+        requires shared { IsShared (outside_of (shared_of self.old.shared)) }
         requires still { plain_turn.is_live (standing_of self.old.standing) ≡ false }
         ensures world { OnOk result (world_of self.new ≡ plain.closing (code_engine codes.now) (job_of job.now) (world_of self.old)) }
         ensures settled { OnOk result (IsSettled codes.now self.new) }
@@ -87,12 +90,14 @@ impl Machine {
         requires version { self.old.shared.version < length codes.now }
         requires new { plain_job.version_at (job_of job.now) (self.old.shared.version + 1) ≡ Some new.now }
         requires settled { IsSettled codes.now self.old }
+        requires shared { IsShared (outside_of (shared_of self.old.shared)) }
         requires still { plain_turn.is_live (standing_of self.old.standing) ≡ false }
         ensures world { OnOk result (world_of self.new ≡
             plain.closed_between (code_engine codes.now) (Some old.now) (Some new.now) (world_of self.old)) }
         ensures settled { OnOk result (IsSettled codes.now self.new) }
         ensures version { OnOk result (self.new.shared.version < length codes.now) }
     {
+        self.law();
         match self.standing {
             Standing::Parked => match self.next_point(old, new) {
                 Some(point) => self.restart(alloc, job, codes, old, new, point),
@@ -116,10 +121,13 @@ impl Machine {
 
     // The new version's globals, and the old values that are kept.
     fn update(&mut self, alloc: Global, old: &Version, new: &Version) -> Result<(), AllocError>
-        requires { self.old.shared.version < 16 }
+        requires few { self.old.shared.version < 16 }
+        requires shared { IsShared (outside_of (shared_of self.old.shared)) }
         ensures shared { OnOk result ((codes : _) → shared_of self.new.shared ≡ (plain.updated (code_engine codes) old.now new.now (world_of self.old)).shared) }
+        ensures pairs { OnOk result (pairs_of self.new ≡ []) }
         ensures thread { self.new ≡ record self.old { shared = self.new.shared } }
     {
+        self.law();
         let version = self.shared.version() + 1;
         let kept = kept_values(alloc, old, self.shared.outside().heap(), new)?;
         let heap = first_heap(alloc, version, new, self.shared.outside().heap().next())?;
@@ -139,6 +147,7 @@ impl Machine {
         requires codes { AreCodesOf (job_of job.now) codes.now }
         requires few { length codes.now ≤ 16 }
         requires version { self.old.shared.version < length codes.now }
+        requires shared { IsShared (outside_of (shared_of self.old.shared)) }
         requires new { plain_job.version_at (job_of job.now) (self.old.shared.version + 1) ≡ Some new.now }
         requires point { point < new.now.points.updates }
         ensures world { OnOk result (world_of self.new ≡ with_restart (code_engine codes.now) old.now new.now point (world_of self.old)) }
@@ -172,6 +181,7 @@ impl Machine {
         ensures settled { OnOk result (IsSettled codes.now self.new) }
         ensures version { OnOk result (self.new.shared.version ≡ self.old.shared.version) }
     {
+        self.law();
         let compiled = in_force(codes, self.shared.version());
         self.go_on(alloc, compiled.code(), Reply::Done)?;
         self.standing = Standing::Live;

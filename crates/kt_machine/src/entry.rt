@@ -87,7 +87,7 @@ fn entry_state(
 }
 
 /// A state without a frame.
-fn no_frames(alloc: Global, v: u8, mode: Mode) -> Private
+pub(crate) fn no_frames(alloc: Global, v: u8, mode: Mode) -> Private
     ensures { result ≡ no_frames v mode }
 {
     Private {

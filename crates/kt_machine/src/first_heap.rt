@@ -1,20 +1,22 @@
 //! The heap with which a version begins.
 ghost use Rattle.std.specs.Prelude.{◌≡◌, [], IfOk, OnOk};
-ghost use Rattle.kt_flat.specs.Heap.{memory, given};
+ghost use Rattle.kt_heap.specs.ByNumber.{by_number, HoldsGiven};
+ghost use Rattle.kt_heap.specs.Heap.{memory, given};
 ghost use Rattle.kt_lone.specs.Update.{first_memory};
 ghost use Rattle.kt_machine.specs.Outside.{HasCharLiterals};
 
 use crate::first_objects::{global_object, literal_object};
-use kt_flat::Heap;
+use kt_heap::Heap;
 use kt_tree::{Version, version_law};
 use std::alloc::{AllocError, Global};
 
 /// The heap with which a program begins that is version `v`: its globals with their initial values, its string literals,
 /// and no heap object. The next heap number is `next`.
 pub fn first_heap(alloc: Global, v: u8, version: &Version, next: u64) -> Result<Heap, AllocError>
-    ensures memory { IfOk result (λ heap. memory heap ≡ first_memory v version.now next) }
+    ensures memory { IfOk result (λ heap. by_number (given heap) (memory heap) ≡ first_memory v version.now next) }
     ensures literals { IfOk result (λ heap. HasCharLiterals (memory heap)) }
     ensures given { IfOk result (λ heap. given heap ≡ []) }
+    ensures holds { IfOk result (λ heap. HoldsGiven (given heap) (memory heap)) }
 {
     let mut heap = Heap::new(alloc, next);
     set_globals(alloc, v, version, &mut heap)?;

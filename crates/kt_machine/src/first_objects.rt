@@ -2,10 +2,10 @@
 ghost use Rattle.std.specs.Prelude.{◌≡◌, ◌*◌, ◌++◌, ◌≤◌, [], ◌∷◌, length, map, IfOk};
 ghost use Rattle.kt_types.specs.Layout.{cells, IsComplete};
 ghost use Rattle.kt_mem.specs.Memory as mem;
-ghost use Rattle.kt_flat.specs.Objects.{shown};
+ghost use Rattle.kt_heap.specs.Objects.{shown};
 ghost use Rattle.kt_lone.specs.Update as plain;
 
-use kt_flat::Obj;
+use kt_heap::Obj;
 use kt_mem::{Cell, Cells, Name, Value};
 use kt_tree::{GlobalDecl, Init};
 use kt_types::{Ty, TypeTable};

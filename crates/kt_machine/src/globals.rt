@@ -1,9 +1,11 @@
 //! What an update carries over by name: the values of globals, and points.
 ghost use Rattle.std.specs.Prelude.{◌≡◌, ◌<◌, ◌≤◌, length, IfOk, IfSome};
-ghost use Rattle.kt_flat.specs.Heap.{memory, given};
+ghost use Rattle.kt_heap.specs.ByNumber.{by_number};
+ghost use Rattle.kt_heap.specs.Heap.{memory, given};
+ghost use Rattle.kt_machine.specs.Outside.{AreNumbers, IsNumber};
 ghost use Rattle.kt_lone.specs.Update as plain;
 
-use kt_flat::Heap;
+use kt_heap::Heap;
 use kt_mem::{Name, Value};
 use kt_tree::{GlobalDecl, Version, version_law};
 use kt_types::Ty;
@@ -31,8 +33,10 @@ pub fn kept_values(
 
 /// Stores the kept values, each into the global of its number.
 pub fn place(heap: &mut Heap, kept: &[Option<Value>])
-    requires { length kept.now ≤ 4294967296 }
+    requires few { length kept.now ≤ 4294967296 }
+    requires numbers { AreNumbers kept.now }
     ensures placed { memory heap.new ≡ plain.placed kept.now (memory heap.old) }
+    ensures numbered { by_number (given heap.new) (memory heap.new) ≡ plain.placed kept.now (by_number (given heap.old) (memory heap.old)) }
     ensures given { given heap.new ≡ given heap.old }
 {
     for (i, value) in kept.iter().enumerate() {
@@ -87,9 +91,12 @@ fn is_int(global: &GlobalDecl) -> bool
 
 /// Stores a kept value into the global of this number. Where it can't be stored, nothing changes.
 fn place_one(heap: &mut Heap, i: u32, kept: Option<Value>)
+    requires { IsNumber kept }
     ensures placed { memory heap.new ≡ plain.placed_one i kept (memory heap.old) }
+    ensures numbered { by_number (given heap.new) (memory heap.new) ≡ plain.placed_one i kept (by_number (given heap.old) (memory heap.old)) }
     ensures given { given heap.new ≡ given heap.old }
 {
+    heap.law();
     if let Some(value) = kept {
         let _ = heap.store(Value::Ptr(Name::Glob(i), 0), Ty::Int, value);
     }

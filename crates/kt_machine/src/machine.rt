@@ -46,8 +46,12 @@ impl Machine {
     ghost use Rattle.std.specs.Prelude.{◌≡◌, ◌<◌, ◌≤◌, ◌^◌, length, IfOk, OnOk};
     ghost use Rattle.kt_lone.specs.Plain.{job_of};
     ghost use Rattle.kt_lone.specs.Turn as plain_turn;
-    ghost use Rattle.kt_machine.specs.Acts.{KeepsPlace};
-    ghost use Rattle.kt_machine.specs.Engine.{code_engine, world_of, AreCodesOf, IsReady, IsSettled};
+    ghost use Rattle.kt_meaning.specs.Laws.{IsShared};
+    ghost use Rattle.kt_lone.specs.World.{outside_of};
+    ghost use Rattle.kt_machine.specs.Acts.{KeepsPlace, turned};
+    ghost use Rattle.kt_machine.specs.Engine.{code_engine, pairs_of, without_ended, world_of, AreCodesOf, IsReady, IsSettled};
+    ghost use Rattle.kt_heap.specs.Heap.{memory, AreOneToOne, IsPairing};
+    ghost use Rattle.kt_machine.specs.Shared.{shared_of};
 
     /// Before the first turn of a job: `main` stands at its first act, trap or end.
     pub fn new(alloc: Global, job: &Job, codes: &[Compiled]) -> Result<Machine, AllocError>
@@ -66,6 +70,14 @@ impl Machine {
                 Err(fault)
             }
         }
+    }
+
+    /// The pairs of addresses and heap numbers that were given out are one to one, and live objects have them.
+    pub(crate) fn law(&self)
+        ensures pairing { IsPairing (pairs_of self.now) (memory self.now.shared.outside.heap) }
+        ensures once { AreOneToOne (pairs_of self.now) }
+    {
+        self.shared.outside().law();
     }
 
     /// How the run has ended.
@@ -104,9 +116,9 @@ impl Machine {
         requires version { self.old.shared.version < length codes.now }
         requires live { self.old.standing ≡ Standing.Live }
         requires settled { IsSettled codes.now self.old }
-        requires ready { IsReady (job_of job.now) self.old }
+        requires ready { IsReady (job_of job.now) codes.now self.old }
         requires few_turns { self.old.shared.turns < 2 ^ 31 }
-        ensures world { OnOk result (world_of self.new ≡ plain_turn.turn (code_engine codes.now) (job_of job.now) (world_of self.old) 0) }
+        ensures world { OnOk result (world_of self.new ≡ turned (code_engine codes.now) (job_of job.now) (world_of self.old)) }
         ensures settled { OnOk result (IsSettled codes.now self.new) }
     {
         self.act_and_count(alloc, job, codes)?;
@@ -124,9 +136,10 @@ impl Machine {
         requires version { self.old.shared.version < length codes.now }
         requires live { self.old.standing ≡ Standing.Live }
         requires settled { IsSettled codes.now self.old }
-        requires ready { IsReady (job_of job.now) self.old }
+        requires ready { IsReady (job_of job.now) codes.now self.old }
         requires few_turns { self.old.shared.turns < 2 ^ 31 }
-        ensures world { OnOk result (world_of self.new ≡ plain_turn.counted (plain_turn.acted (code_engine codes.now) (job_of job.now) (world_of self.old) 0)) }
+        ensures world { OnOk result (world_of self.new ≡ plain_turn.counted (without_ended (plain_turn.acted (code_engine codes.now) (job_of job.now) (world_of self.old) 0))) }
+        ensures shared { OnOk result (IsShared (outside_of (shared_of self.new.shared))) }
         ensures settled { OnOk result (IsSettled codes.now self.new) }
         ensures version { OnOk result (self.new.shared.version ≡ self.old.shared.version) }
     {

@@ -1,10 +1,10 @@
 //! What acts do to the mutexes of a heap.
 ghost use Rattle.std.specs.Prelude.{◌≡◌, IsOk, OnErr};
-ghost use Rattle.kt_flat.specs.Heap.{memory};
+ghost use Rattle.kt_heap.specs.Heap.{memory, given};
 ghost use Rattle.kt_mem.specs.Memory.{init_mutex, initialised, lock, locked, unlock, unlocked, value_at, waits, written};
 ghost use Rattle.kt_machine.specs.Outside.{left_by, HasCharLiterals, KeepsLiterals};
 
-use kt_flat::Heap;
+use kt_heap::Heap;
 use kt_mem::{Trap, Value};
 use kt_types::Ty;
 
@@ -24,6 +24,7 @@ pub(crate) fn lock(heap: &mut Heap, thread: u8, p: Value) -> Result<(), Trap>
     ensures left { lock (memory heap.old) thread p ≡ left_by result (memory heap.new) }
     ensures kept { OnErr result (memory heap.new ≡ memory heap.old) }
     ensures literals { KeepsLiterals (memory heap.old) (memory heap.new) }
+    ensures pairs { given heap.new ≡ given heap.old }
 {
     let held = mutex_at(heap, p)?;
     set(heap, p, locked(thread, held))
@@ -35,6 +36,7 @@ pub(crate) fn unlock(heap: &mut Heap, thread: u8, p: Value) -> Result<(), Trap>
     ensures left { unlock (memory heap.old) thread p ≡ left_by result (memory heap.new) }
     ensures kept { OnErr result (memory heap.new ≡ memory heap.old) }
     ensures literals { KeepsLiterals (memory heap.old) (memory heap.new) }
+    ensures pairs { given heap.new ≡ given heap.old }
 {
     let held = mutex_at(heap, p)?;
     set(heap, p, unlocked(thread, held))
@@ -46,6 +48,7 @@ pub(crate) fn init(heap: &mut Heap, p: Value) -> Result<(), Trap>
     ensures left { init_mutex (memory heap.old) p ≡ left_by result (memory heap.new) }
     ensures kept { OnErr result (memory heap.new ≡ memory heap.old) }
     ensures literals { KeepsLiterals (memory heap.old) (memory heap.new) }
+    ensures pairs { given heap.new ≡ given heap.old }
 {
     let held = mutex_at(heap, p)?;
     set(heap, p, initialised(held))
@@ -68,6 +71,7 @@ fn set(heap: &mut Heap, p: Value, new: Result<Value, Trap>) -> Result<(), Trap>
     ensures left { written (memory heap.old) p Ty.Mutex new ≡ left_by result (memory heap.new) }
     ensures kept { OnErr result (memory heap.new ≡ memory heap.old) }
     ensures literals { KeepsLiterals (memory heap.old) (memory heap.new) }
+    ensures pairs { given heap.new ≡ given heap.old }
 {
     match new {
         Err(trap) => Err(trap),

@@ -1,15 +1,16 @@
 //! Output.
 ghost use Rattle.std.specs.Prelude.{◌≡◌, [], ◌∷◌, drop, IfOk, List, OnOk};
 ghost use Rattle.std.specs.Option.{option_copied, option_map};
-ghost use Rattle.kt_flat.specs.Heap.{memory};
-ghost use Rattle.kt_flat.specs.Objects.{shown};
+ghost use Rattle.kt_heap.specs.Heap.{memory};
+ghost use Rattle.kt_heap.specs.Objects.{shown};
 ghost use Rattle.kt_mem.specs.Memory.{Cell as CellSpec};
+ghost use Rattle.kt_exec.specs.Renaming.{ReplyIn};
 ghost use Rattle.kt_meaning.specs.Effects as plain;
 ghost use Rattle.kt_meaning.specs.Requests.{byte_of};
 ghost use Rattle.kt_machine.specs.Printing.{text_from, with_text, IsPut};
 
 use itoa::Buffer;
-use kt_flat::{Heap, Obj};
+use kt_heap::{Heap, Obj};
 use kt_mem::{Cell, Name, Piece, Reply, Trap, Value};
 use kt_types::Ty;
 use std::alloc::AllocError;
@@ -24,7 +25,8 @@ pub(crate) fn print(
     pieces: &[Piece],
     output: &mut Vec<u8>,
 ) -> Result<Reply, AllocError>
-    ensures { IfOk result (λ r. (s : plain.Shared) → plain.writes (record s { output = output.old.items }) (plain.pieces_text (memory heap.now) pieces.now) ≡ plain.Replies r (record s { output = output.new.items })) }
+    ensures names { IfOk result (λ r. ReplyIn (λ a. ⊥) r) }
+    ensures text { IfOk result (λ r. (s : plain.Shared) → plain.writes (record s { output = output.old.items }) (plain.pieces_text (memory heap.now) pieces.now) ≡ plain.Replies r (record s { output = output.new.items })) }
 {
     let start = output.len();
     if let Some(trap) = put_pieces(heap, pieces, output)? {

@@ -6,7 +6,7 @@ ghost use Rattle.kt_lone.specs.Plain.{job_of};
 
 use crate::effects::{Outcome, effect};
 use crate::outside::Outside;
-use kt_flat::Heap;
+use kt_heap::Heap;
 use kt_lone::job::Job;
 use kt_lone::mark::{Closed, End, Mark, Phase};
 use kt_mem::{Act, Value};
@@ -30,6 +30,7 @@ pub struct Shared {
 
 impl Model for Shared {
     ghost use Rattle.std.specs.Prelude.{◌+◌, ◌<◌, ◌≤◌, vec_len};
+    ghost use Rattle.kt_machine.specs.Outside.{AreNumbers};
     ghost use Rattle.kt_machine.specs.Shared as spec;
 
     ghost Value = { spec.Shared };
@@ -46,14 +47,17 @@ impl Model for Shared {
       ended = s.ended;
     } };
 
-    ghost invariant = { λ s. (s.requests + vec_len s.after < 256) × (vec_len s.kept ≤ 4294967296) };
+    ghost invariant = { λ s. (s.requests + vec_len s.after < 256) × (vec_len s.kept ≤ 4294967296) × AreNumbers s.kept.items };
 }
 
 impl Shared {
     ghost use Rattle.std.specs.Prelude.{◌≡◌, ◌+◌, ◌<◌, ◌≤◌, ◌^◌, [], ◌∷◌, ◌++◌, IfOk, None, OnOk, Some, drop, length, vec_len};
-    ghost use Rattle.kt_flat.specs.Heap.{memory};
+    ghost use Rattle.kt_heap.specs.ByNumber.{by_number, number_of, HoldsGiven};
+    ghost use Rattle.kt_heap.specs.Heap.{memory, given, AreOneToOne};
     ghost use Rattle.kt_meaning.specs.Effects as plain;
-    ghost use Rattle.kt_machine.specs.Outside.{outcome_of, shown, HasCharLiterals, IsComplete};
+    ghost use Rattle.kt_exec.specs.Renaming.{ActIn, IsOld, rename_act};
+    ghost use Rattle.kt_machine.specs.ByNumber.{Grows};
+    ghost use Rattle.kt_machine.specs.Outside.{outcome_of, pairs_in, shown, AreNumbers, HasCharLiterals, IsComplete, OutcomeIn};
     ghost use Rattle.kt_machine.specs.Shared.{shared_of};
     ghost use Rattle.kt_lone.specs.Plain.{job_of};
     ghost use Rattle.kt_lone.specs.Turn.{asked, ended_as, request, spent, with_mark};
@@ -109,8 +113,11 @@ impl Shared {
         thread: u8,
         act: &Act,
     ) -> Result<Outcome, AllocError>
-        requires { IsComplete types.now act.now }
-        ensures outcome { IfOk result (λ o. plain.effect types.now thread act.now (shown self.old.outside) ≡ outcome_of o (shown self.new.outside)) }
+        requires complete { IsComplete types.now act.now }
+        requires names { ActIn (IsOld (pairs_in self.old.outside)) act.now }
+        ensures outcome { IfOk result (λ o. plain.effect types.now thread (rename_act (number_of (pairs_in self.old.outside)) act.now) (shown self.old.outside) ≡ outcome_of (pairs_in self.new.outside) o (shown self.new.outside)) }
+        ensures names { IfOk result (λ o. OutcomeIn (IsOld (pairs_in self.new.outside)) o) }
+        ensures grows { OnOk result (Grows (pairs_in self.old.outside) (pairs_in self.new.outside)) }
         ensures kept { IfOk result (λ o. (o ≡ Outcome.Waits → shown self.new.outside ≡ shown self.old.outside)
             × (o ≡ Outcome.Elsewhere → shown self.new.outside ≡ shown self.old.outside)) }
         ensures rest { self.new ≡ record self.old { outside = self.new.outside } }
@@ -120,7 +127,8 @@ impl Shared {
 
     /// Places all kept values, which are then kept no more.
     pub fn place_kept(&mut self)
-        ensures { shared_of self.new ≡ record (shared_of self.old) { memory = placed self.old.kept (memory self.old.outside.heap); kept = [] } }
+        ensures placed { shared_of self.new ≡ record (shared_of self.old) { memory = placed self.old.kept (shared_of self.old).memory; kept = [] } }
+        ensures pairs { pairs_in self.new.outside ≡ pairs_in self.old.outside }
     {
         self.outside.place(self.kept.as_slice());
         self.kept.clear();
@@ -157,7 +165,8 @@ impl Shared {
     }
 
     fn mark(&mut self, mark: Mark) -> Result<(), AllocError>
-        ensures { OnOk result (shared_of self.new ≡ marked mark (shared_of self.old)) }
+        ensures shared { OnOk result (shared_of self.new ≡ marked mark (shared_of self.old)) }
+        ensures outside { OnOk result (self.new.outside ≡ self.old.outside) }
     {
         self.marks.push(mark)?;
         Ok(())
@@ -165,14 +174,16 @@ impl Shared {
 
     /// The run ends so.
     pub fn end(&mut self, how: End)
-        ensures { shared_of self.new ≡ record (shared_of self.old) { ended = Some how } }
+        ensures shared { shared_of self.new ≡ record (shared_of self.old) { ended = Some how } }
+        ensures outside { self.new.outside ≡ self.old.outside }
     {
         self.ended = Some(how);
     }
 
     /// An end is marked.
     pub fn mark_end(&mut self) -> Result<(), AllocError>
-        ensures { OnOk result (shared_of self.new ≡ with_mark self.old.ended (shared_of self.old)) }
+        ensures shared { OnOk result (shared_of self.new ≡ with_mark self.old.ended (shared_of self.old)) }
+        ensures outside { OnOk result (self.new.outside ≡ self.old.outside) }
     {
         match self.ended {
             None => Ok(()),
@@ -186,14 +197,16 @@ impl Shared {
     /// One turn more.
     pub fn count_turn(&mut self)
         requires { self.old.turns < 2 ^ 31 }
-        ensures { shared_of self.new ≡ record (shared_of self.old) { turns = self.old.turns + 1 } }
+        ensures shared { shared_of self.new ≡ record (shared_of self.old) { turns = self.old.turns + 1 } }
+        ensures outside { self.new.outside ≡ self.old.outside }
     {
         self.turns += 1;
     }
 
     /// `main` has come to its point.
     pub fn mark_main(&mut self) -> Result<(), AllocError>
-        ensures { OnOk result (shared_of self.new ≡ marked (Mark.MainThere self.old.turns self.old.requests) (record (shared_of self.old) { phase = Phase.Others })) }
+        ensures shared { OnOk result (shared_of self.new ≡ marked (Mark.MainThere self.old.turns self.old.requests) (record (shared_of self.old) { phase = Phase.Others })) }
+        ensures outside { OnOk result (self.new.outside ≡ self.old.outside) }
     {
         self.phase = Phase::Others;
         self.mark(Mark::MainThere {
@@ -204,7 +217,8 @@ impl Shared {
 
     /// All threads have come to their points.
     pub fn mark_back(&mut self) -> Result<(), AllocError>
-        ensures { OnOk result (shared_of self.new ≡ marked (Mark.Back self.old.turns self.old.requests) (record (shared_of self.old) { phase = Phase.Run })) }
+        ensures shared { OnOk result (shared_of self.new ≡ marked (Mark.Back self.old.turns self.old.requests) (record (shared_of self.old) { phase = Phase.Run })) }
+        ensures outside { OnOk result (self.new.outside ≡ self.old.outside) }
     {
         self.phase = Phase::Run;
         self.mark(Mark::Back {
@@ -215,7 +229,8 @@ impl Shared {
 
     /// The closing was refused, since the new version lacks that thread's point.
     pub fn mark_refused(&mut self, thread: u8) -> Result<(), AllocError>
-        ensures { OnOk result (shared_of self.new ≡ marked (Mark.Close self.old.turns self.old.requests (Closed.Point thread)) (record (shared_of self.old) { phase = Phase.Run })) }
+        ensures shared { OnOk result (shared_of self.new ≡ marked (Mark.Close self.old.turns self.old.requests (Closed.Point thread)) (record (shared_of self.old) { phase = Phase.Run })) }
+        ensures outside { OnOk result (self.new.outside ≡ self.old.outside) }
     {
         self.phase = Phase::Run;
         self.mark(Mark::Close {
@@ -229,13 +244,16 @@ impl Shared {
     pub fn mark_updated(&mut self, heap: Heap, kept: Vec<Option<Value>>) -> Result<(), AllocError>
         requires version { self.old.version < 16 }
         requires literals { HasCharLiterals (memory heap) }
+        requires names { HoldsGiven (given heap) (memory heap) }
         requires few { vec_len kept ≤ 4294967296 }
-        ensures { OnOk result (shared_of self.new ≡ marked (Mark.Close self.old.turns self.old.requests (Closed.Ok 0)) (record (shared_of self.old) {
+        requires numbers { AreNumbers kept.items }
+        ensures shared { OnOk result (shared_of self.new ≡ marked (Mark.Close self.old.turns self.old.requests (Closed.Ok 0)) (record (shared_of self.old) {
           version = self.old.version + 1;
-          memory = memory heap;
+          memory = by_number (given heap) (memory heap);
           kept = kept.items;
           phase = Phase.Main;
         })) }
+        ensures heap { OnOk result (self.new.outside.heap ≡ heap) }
     {
         self.version += 1;
         self.outside.set_heap(heap);
@@ -251,7 +269,8 @@ impl Shared {
     /// The next request, where no update is under way, a next version exists, and enough turns were made.
     pub fn ask(&mut self, job: &Job) -> Result<(), AllocError>
         requires { self.old.version < 16 }
-        ensures { OnOk result (shared_of self.new ≡ asked (job_of job.now) self.old.phase (shared_of self.old)) }
+        ensures shared { OnOk result (shared_of self.new ≡ asked (job_of job.now) self.old.phase (shared_of self.old)) }
+        ensures outside { OnOk result (self.new.outside ≡ self.old.outside) }
     {
         match self.phase {
             Phase::Run => self.request(job),
@@ -261,7 +280,8 @@ impl Shared {
 
     fn request(&mut self, job: &Job) -> Result<(), AllocError>
         requires { self.old.version < 16 }
-        ensures { OnOk result (shared_of self.new ≡ request (job_of job.now) self.old.after (shared_of self.old)) }
+        ensures shared { OnOk result (shared_of self.new ≡ request (job_of job.now) self.old.after (shared_of self.old)) }
+        ensures outside { OnOk result (self.new.outside ≡ self.old.outside) }
     {
         match self.after.first() {
             Some(turns) if has_version(job, self.version + 1) && *turns <= self.turns =>
@@ -272,11 +292,12 @@ impl Shared {
 
     fn take_request(&mut self) -> Result<(), AllocError>
         requires { 0 < length self.old.after }
-        ensures { OnOk result (shared_of self.new ≡ marked (Mark.Ask self.old.turns (self.old.requests + 1)) (record (shared_of self.old) {
+        ensures shared { OnOk result (shared_of self.new ≡ marked (Mark.Ask self.old.turns (self.old.requests + 1)) (record (shared_of self.old) {
           phase = Phase.Asked;
           after = drop 1 self.old.after;
           requests = self.old.requests + 1;
         })) }
+        ensures outside { OnOk result (self.new.outside ≡ self.old.outside) }
     {
         self.after.remove(0);
         self.phase = Phase::Asked;
@@ -289,7 +310,8 @@ impl Shared {
 
     /// The end where nobody may take a turn.
     pub fn end_stuck(&mut self) -> Result<(), AllocError>
-        ensures { OnOk result (shared_of self.new ≡ ended_as End.Stuck (shared_of self.old)) }
+        ensures shared { OnOk result (shared_of self.new ≡ ended_as End.Stuck (shared_of self.old)) }
+        ensures outside { OnOk result (self.new.outside ≡ self.old.outside) }
     {
         self.ended = Some(End::Stuck);
         self.mark_end()
@@ -297,7 +319,8 @@ impl Shared {
 
     /// The end by budget, where as many turns were made.
     pub fn spend(&mut self, job: &Job) -> Result<(), AllocError>
-        ensures { OnOk result (shared_of self.new ≡ spent (job_of job.now) (shared_of self.old)) }
+        ensures shared { OnOk result (shared_of self.new ≡ spent (job_of job.now) (shared_of self.old)) }
+        ensures outside { OnOk result (self.new.outside ≡ self.old.outside) }
     {
         if self.turns == job.budget {
             self.ended = Some(End::Budget);

@@ -2,12 +2,12 @@
 
 ghost use Rattle.std.specs.Prelude.{◌≡◌};
 ghost use Rattle.kt_mem.specs.Memory.{waits};
-ghost use Rattle.kt_flat.specs.Heap.{memory};
+ghost use Rattle.kt_heap.specs.Heap.{memory};
 ghost use Rattle.kt_machine.specs.Acts.{waits_at};
 
 use crate::machine::{Machine, Standing};
 use kt_code::Head;
-use kt_flat::Heap;
+use kt_heap::Heap;
 use kt_lone::job::Job;
 use kt_lone::mark::Phase;
 use kt_mem::{Act, Mode, Value};
@@ -19,7 +19,8 @@ impl Machine {
     ghost use Rattle.std.specs.Prelude.{◌≡◌, ◌<◌, ◌≤◌, length, OnOk};
     ghost use Rattle.kt_lone.specs.Plain.{job_of};
     ghost use Rattle.kt_lone.specs.Turn as plain_turn;
-    ghost use Rattle.kt_flat.specs.Heap.{memory};
+    ghost use Rattle.kt_meaning.specs.Laws.{IsShared};
+    ghost use Rattle.kt_lone.specs.World.{outside_of};
     ghost use Rattle.kt_machine.specs.Acts.{KeepsThread, step_of};
     ghost use Rattle.kt_machine.specs.Engine.{code_engine, thread_of, world_of, AreCodesOf, IsSettled};
     ghost use Rattle.kt_machine.specs.Shared.{shared_of};
@@ -35,6 +36,7 @@ impl Machine {
         requires few { length codes.now ≤ 16 }
         requires version { self.old.shared.version < length codes.now }
         requires settled { IsSettled codes.now self.old }
+        requires shared { IsShared (outside_of (shared_of self.old.shared)) }
         ensures world { OnOk result (world_of self.new ≡ plain_turn.after_act (code_engine codes.now) (job_of job.now) (world_of self.old)) }
         ensures settled { OnOk result (IsSettled codes.now self.new) }
     {
@@ -163,9 +165,10 @@ impl Machine {
     fn waits(&self, codes: &[Compiled]) -> bool
         requires live { self.now.standing ≡ Standing.Live }
         requires settled { IsSettled codes.now self.now }
-        ensures { result ≡ plain_turn.is_waiting (memory self.now.shared.outside.heap) 0 (step_of codes.now self.now) }
+        ensures { result ≡ plain_turn.is_waiting (shared_of self.now.shared).memory 0 (step_of codes.now self.now) }
     {
         let _codes = codes;
+        self.law();
         match &self.head {
             Head::Act(act) => waits(self.shared.outside().heap(), act),
             Head::Trap(_) => false,

@@ -33,6 +33,7 @@ pub fn take_turns(alloc: Global, job: &Job, codes: &[Compiled]) -> Result<Report
         if let Some(how) = machine.ended() {
             return Ok(report_of(machine, how));
         }
+        machine.law();
         if let Err(fault) = machine.turn(alloc, job, codes) {
             drop(machine);
             return Err(fault);

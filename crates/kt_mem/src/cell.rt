@@ -1,7 +1,8 @@
 //! Cells, each in 24 bytes.
-ghost use Rattle.std.specs.Prelude.{◌≡◌};
+ghost use Rattle.std.specs.Prelude.{◌≡◌, None, Some, if◌then◌else◌};
 ghost use Rattle.kt_types.specs.declared.kinds.Ty.TheVariants as ty;
 ghost use Rattle.kt_mem.specs.Kept.{kept_as};
+ghost use Rattle.kt_mem.specs.Values.{ty_eq};
 
 use crate::memory::{Name, Value};
 use crate::stored::Stored;
@@ -106,6 +107,43 @@ impl Cell {
             Kept::ArrayUndef(_, _) => Value::Undef,
         }
     }
+}
+
+impl Cell {
+    /// What it holds, as it is kept, where it is of this type.
+    #[inline]
+    pub fn stored(&self, ty: Ty) -> Option<Stored>
+        ensures { result ≡ (if ty_eq self.now.ty ty then Some self.now.value else None) }
+    {
+        match self.kept {
+            Kept::Char(s) => where_it(matches!(ty, Ty::Char), s),
+            Kept::Int(s) => where_it(matches!(ty, Ty::Int), s),
+            Kept::Long(s) => where_it(matches!(ty, Ty::Long), s),
+            Kept::Mutex(s) => where_it(matches!(ty, Ty::Mutex), s),
+            Kept::Ptr(u, s) => where_it(matches!(ty, Ty::Ptr(t) if t == u), s),
+            _ => self.stored_in_any(ty),
+        }
+    }
+
+    /// The same of any type. It is done seldom, and stands apart so that what is done each time stays short.
+    #[inline(never)]
+    fn stored_in_any(&self, ty: Ty) -> Option<Stored>
+        ensures { result ≡ (if ty_eq self.now.ty ty then Some self.now.value else None) }
+    {
+        if self.ty() == ty {
+            Some(Stored::of(self.value()))
+        } else {
+            None
+        }
+    }
+}
+
+/// The value, where the test holds.
+#[inline]
+fn where_it(holds: bool, value: Stored) -> Option<Stored>
+    ensures { result ≡ (if holds then Some value else None) }
+{
+    if holds { Some(value) } else { None }
 }
 
 impl Kept {

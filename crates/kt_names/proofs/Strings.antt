@@ -20,6 +20,7 @@ call-first n (Paren' at p (more_of-Expr a end_of-Expr)) rest = refl
 call-first n (expr.SizeOf at type) rest = refl
 call-first n (expr.Rule at word) rest = refl
 call-first n (expr.OldSymbol at name) rest = refl
+call-first n (expr.New at fresh) rest = refl
 call-first n (Transform' at p (more_of-Expr a end_of-Expr)) rest = refl
 call-first n (Index' p (more_of-Expr a end_of-Expr) q (more_of-Expr i end_of-Expr)) rest = refl
 call-first n (Field' p (more_of-Expr a end_of-Expr) name) rest = refl

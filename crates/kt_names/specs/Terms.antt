@@ -6,7 +6,7 @@ use Rattle.kt_grammar.specs.declared.tree.Base.{Base}
 use Rattle.kt_grammar.specs.declared.tree.Base.TheVariants as base
 use Rattle.kt_grammar.specs.declared.tree.Name.{Name}
 use Rattle.kt_grammar.specs.declared.tree.TypeName.{TypeName}
-use Rattle.kt_grammar.specs.Tree.{Term, Constant, Character, Text, Null as NullTerm, Eof, Named, Called, Parenthesised, SizeOf, RuleValue, OldSymbol, Transformed, Element, Member, Pointed, Stepped, Prefixed, Converted, Operated as OperatedTerm, Chosen as ChosenTerm, Assigned, Terms, Nothing, More as MoreTerms}
+use Rattle.kt_grammar.specs.Tree.{Term, Constant, Character, Text, Null as NullTerm, Eof, Named, Called, Parenthesised, SizeOf, RuleValue, OldSymbol, Transformed, NewObject, Element, Member, Pointed, Stepped, Prefixed, Converted, Operated as OperatedTerm, Chosen as ChosenTerm, Assigned, Terms, Nothing, More as MoreTerms}
 use Rattle.kt_tree.specs.declared.expr.Constant.TheVariants as constant
 use Rattle.kt_tree.specs.declared.expr.Request.TheVariants as request
 use Rattle.kt_tree.specs.Tree.{Expression, Constant', Requested, Called as CalledExpression, Expressions, NoMore, More}
@@ -34,6 +34,7 @@ first_token (Parenthesised at a) = at
 first_token (SizeOf at t) = at
 first_token (RuleValue at w) = at
 first_token (OldSymbol at n) = at
+first_token (NewObject at f) = at
 first_token (Transformed at a) = at
 first_token (Element a i) = first_token a
 first_token (Member a f) = first_token a
@@ -200,6 +201,7 @@ abbrev mutual
   typing env (SizeOf at t) = fault (BadType at)
   typing env (RuleValue at w) = fault (Unknown at)
   typing env (OldSymbol at n) = fault (Unknown at)
+  typing env (NewObject at f) = fault (Unknown at)
   typing env (Transformed at a) = fault (Unknown at)
   typing env (Element a i) = and_then (both (typing env a) (typing env i)) (λ x. element env (first_token a) (first_token i) x.0 x.1)
   typing env (Member a f) = and_then (typing env a) (λ x. member env (first_token a) x f)

@@ -115,6 +115,7 @@ impl<'f> Uses<'f> {
             Expr::SizeOf(_, named) => self.push_named(named),
             Expr::Rule(_, _) => Ok(()),
             Expr::OldSymbol(_, _) => Ok(()),
+            Expr::New(_, _) => Ok(()),
             Expr::Transform(_, _) => Ok(()),
             Expr::Index(a, i) => {
                 self.push_expr(a.get())?;

@@ -58,6 +58,7 @@ fn text_in(expr: &Expr) -> Option<(u32, &[u8])>
         Expr::SizeOf(_, _) => None,
         Expr::Rule(_, _) => None,
         Expr::OldSymbol(_, _) => None,
+        Expr::New(_, _) => None,
         Expr::Transform(_, _) => None,
         Expr::Index(_, _) => None,
         Expr::Field(_, _) => None,
@@ -130,6 +131,7 @@ impl<'f> Strings<'f> {
             Expr::SizeOf(_, _) => Ok(()),
             Expr::Rule(_, _) => Ok(()),
             Expr::OldSymbol(_, _) => Ok(()),
+            Expr::New(_, _) => Ok(()),
             Expr::Transform(_, a) => self.push_expr(a.get()),
             Expr::Index(a, i) => {
                 self.push_expr(a.get())?;

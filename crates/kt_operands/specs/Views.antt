@@ -83,6 +83,7 @@ word_by e word.In = meaning_of e.input
 word_by e word.Out = meaning_of e.output
 word_by e word.Base = meaning_of e.base
 word_by e word.OldSymbol = Missing
+word_by e word.New = Missing
 word_by e word.Transform = Missing
 
 unfoldable pub old_symbol_by : EnvironmentCode → List ℕ → Meaning

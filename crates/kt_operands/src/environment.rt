@@ -199,6 +199,7 @@ impl Environment<'_> {
             RuleWord::Out => self.output,
             RuleWord::Base => self.base,
             RuleWord::OldSymbol => Meaning::Missing,
+            RuleWord::New => Meaning::Missing,
             RuleWord::Transform => Meaning::Missing,
         }
     }

@@ -52,6 +52,7 @@ not-operated (expr.Name name) h = refl
 not-operated (expr.SizeOf at type) h = refl
 not-operated (expr.Rule at word) h = refl
 not-operated (expr.OldSymbol at name) h = refl
+not-operated (expr.New at fresh) h = refl
 
 module _ (env : Environment) (up : ℕ) where
   -- one argument that is no operation

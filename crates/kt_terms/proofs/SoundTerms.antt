@@ -3,7 +3,7 @@ use Rattle.std.proofs.Common.{◌≡◌, ℕ, ◌^◌, nat_lt, pos, negsuc, true
 use Rattle.std.specs.List.{AllByRecursion}
 use Rattle.kt_grammar.specs.declared.operator.BinaryOperator.TheVariants as binary
 use Rattle.kt_grammar.specs.declared.tree.Name.{Name}
-use Rattle.kt_grammar.specs.Tree.{Term, Constant, Character, Text, Null as NullTerm, Eof, Named, Called, Parenthesised, SizeOf, RuleValue, OldSymbol, Transformed, Element, Member, Pointed, Stepped, Prefixed, Converted, Operated, Chosen, Assigned, Terms, Nothing, More}
+use Rattle.kt_grammar.specs.Tree.{Term, Constant, Character, Text, Null as NullTerm, Eof, Named, Called, Parenthesised, SizeOf, RuleValue, OldSymbol, Transformed, NewObject, Element, Member, Pointed, Stepped, Prefixed, Converted, Operated, Chosen, Assigned, Terms, Nothing, More}
 use Rattle.kt_tree.specs.declared.expr.Request.TheVariants as request
 use Rattle.kt_tree.specs.Kinds.{Scope}
 use Rattle.kt_names.specs.declared.builtin.Builtin.{Builtin}
@@ -258,6 +258,7 @@ module _ (env : Environment) (s : Scope) (agrees : Agrees env s) where
     typing-sound (SizeOf at t) k = faulty _ _
     typing-sound (RuleValue at w) k = faulty _ _
     typing-sound (OldSymbol at n) k = faulty _ _
+    typing-sound (NewObject at f) k = faulty _ _
     typing-sound (Transformed at a) k = faulty _ _
     typing-sound (Element a i) k =
         let (ka, ki) = known-two env s a i k in

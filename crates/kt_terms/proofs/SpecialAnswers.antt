@@ -1,7 +1,7 @@
 -- Built-in calls by how their arguments are written.
 use Rattle.std.proofs.Common.{◌≡◌, ℕ, List, [], ◌∷◌, length, map, get_or, Some, None, refl, arith}
 use Rattle.kt_grammar.specs.declared.tree.Expr.{Expr}
-use Rattle.kt_grammar.specs.Tree.{Term, Constant, Character, Text, Null, Eof, Named, Called, Parenthesised, SizeOf, RuleValue, OldSymbol, Transformed, Element, Member, Pointed, Stepped, Prefixed, Converted, Operated, Chosen, Assigned, Terms, Nothing, More, term_of, terms_of}
+use Rattle.kt_grammar.specs.Tree.{Term, Constant, Character, Text, Null, Eof, Named, Called, Parenthesised, SizeOf, RuleValue, OldSymbol, Transformed, NewObject, Element, Member, Pointed, Stepped, Prefixed, Converted, Operated, Chosen, Assigned, Terms, Nothing, More, term_of, terms_of}
 use Rattle.kt_names.specs.declared.builtin.Builtin.TheVariants as builtin
 use Rattle.kt_names.specs.declared.fault.CheckFault.TheVariants.{BadType}
 use Rattle.kt_names.specs.Checked.{fault}
@@ -24,6 +24,7 @@ module _ (env : Environment) (up : ℕ) (values : List Argument) (g : Term) (res
   update-many (SizeOf at t) = refl
   update-many (RuleValue at w) = refl
   update-many (OldSymbol at n) = refl
+  update-many (NewObject at f) = refl
   update-many (Transformed at a) = refl
   update-many (Element a i) = refl
   update-many (Member a f) = refl
@@ -47,6 +48,7 @@ module _ (env : Environment) (up : ℕ) (values : List Argument) (g : Term) (res
   updating-many (SizeOf at t) = refl
   updating-many (RuleValue at w) = refl
   updating-many (OldSymbol at n) = refl
+  updating-many (NewObject at f) = refl
   updating-many (Transformed at a) = refl
   updating-many (Element a i) = refl
   updating-many (Member a f) = refl
@@ -70,6 +72,7 @@ module _ (env : Environment) (up : ℕ) (values : List Argument) (g : Term) (res
   migrate-many (SizeOf at t) = refl
   migrate-many (RuleValue at w) = refl
   migrate-many (OldSymbol at n) = refl
+  migrate-many (NewObject at f) = refl
   migrate-many (Transformed at a) = refl
   migrate-many (Element a i) = refl
   migrate-many (Member a f) = refl
@@ -95,6 +98,7 @@ module _ (env : Environment) (up : ℕ) (values : List Argument) where
   update-by (More (SizeOf at t) Nothing) = refl
   update-by (More (RuleValue at w) Nothing) = refl
   update-by (More (OldSymbol at n) Nothing) = refl
+  update-by (More (NewObject at f) Nothing) = refl
   update-by (More (Transformed at a) Nothing) = refl
   update-by (More (Element a i) Nothing) = refl
   update-by (More (Member a f) Nothing) = refl
@@ -120,6 +124,7 @@ module _ (env : Environment) (up : ℕ) (values : List Argument) where
   updating-by (More (SizeOf at t) Nothing) = refl
   updating-by (More (RuleValue at w) Nothing) = refl
   updating-by (More (OldSymbol at n) Nothing) = refl
+  updating-by (More (NewObject at f) Nothing) = refl
   updating-by (More (Transformed at a) Nothing) = refl
   updating-by (More (Element a i) Nothing) = refl
   updating-by (More (Member a f) Nothing) = refl
@@ -145,6 +150,7 @@ module _ (env : Environment) (up : ℕ) (values : List Argument) where
   migrate-by (More (SizeOf at t) Nothing) = refl
   migrate-by (More (RuleValue at w) Nothing) = refl
   migrate-by (More (OldSymbol at n) Nothing) = refl
+  migrate-by (More (NewObject at f) Nothing) = refl
   migrate-by (More (Transformed at a) Nothing) = refl
   migrate-by (More (Element a i) Nothing) = refl
   migrate-by (More (Member a f) Nothing) = refl

@@ -2,7 +2,7 @@
 use Rattle.std.specs.Prelude.{ℕ, List}
 use Rattle.kt_grammar.specs.declared.tree.Name.{Name as NameTree}
 use Rattle.kt_grammar.specs.declared.tree.TypeName.{TypeName}
-use Rattle.kt_grammar.specs.Tree.{Term, Constant, Character, Text, Null, Eof, Named, Called, Parenthesised, SizeOf, RuleValue, OldSymbol, Transformed, Element, Member, Pointed, Stepped, Prefixed, Converted, Operated, Chosen, Assigned}
+use Rattle.kt_grammar.specs.Tree.{Term, Constant, Character, Text, Null, Eof, Named, Called, Parenthesised, SizeOf, RuleValue, OldSymbol, Transformed, NewObject, Element, Member, Pointed, Stepped, Prefixed, Converted, Operated, Chosen, Assigned}
 use Rattle.kt_terms.specs.declared.spelling.Spelling.{Spelling as SpellingCode}
 use Rattle.kt_terms.specs.declared.spelling.Spelling.TheVariants as code
 
@@ -33,6 +33,7 @@ spelling_of (Parenthesised at a) = Other
 spelling_of (SizeOf at t) = Sized at t
 spelling_of (RuleValue at w) = Other
 spelling_of (OldSymbol at n) = Other
+spelling_of (NewObject at f) = Other
 spelling_of (Transformed at a) = Other
 spelling_of (Element a i) = Other
 spelling_of (Member a f) = Other

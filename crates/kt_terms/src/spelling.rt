@@ -37,6 +37,7 @@ pub(crate) fn spelling_of(e: &Expr) -> Spelling<'_>
         Expr::Paren(_, _) => Spelling::Other,
         Expr::Rule(_, _) => Spelling::Other,
         Expr::OldSymbol(_, _) => Spelling::Other,
+        Expr::New(_, _) => Spelling::Other,
         Expr::Transform(_, _) => Spelling::Other,
         Expr::Index(_, _) => Spelling::Other,
         Expr::Field(_, _) => Spelling::Other,

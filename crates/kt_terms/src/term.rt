@@ -45,6 +45,7 @@ pub fn first_token(e: &Expr) -> u32
         Expr::SizeOf(at, _) => *at,
         Expr::Rule(at, _) => *at,
         Expr::OldSymbol(at, _) => *at,
+        Expr::New(at, _) => *at,
         Expr::Transform(at, _) => *at,
         Expr::Index(a, _) => first_token(a.get()),
         Expr::Field(a, _) => first_token(a.get()),
@@ -86,6 +87,7 @@ pub(crate) fn is_allocation(e: &Expr) -> bool
         Expr::SizeOf(_, _) => false,
         Expr::Rule(_, _) => false,
         Expr::OldSymbol(_, _) => false,
+        Expr::New(_, _) => false,
         Expr::Transform(_, _) => false,
         Expr::Index(_, _) => false,
         Expr::Field(_, _) => false,
@@ -214,6 +216,7 @@ pub fn typing(env: &Environment<'_>, e: &Expr) -> Result<Operand, CheckFault>
         Expr::SizeOf(at, _) => Err(CheckFault::BadType { at: *at }),
         Expr::Rule(at, _) => Err(CheckFault::Unknown { at: *at }),
         Expr::OldSymbol(at, _) => Err(CheckFault::Unknown { at: *at }),
+        Expr::New(at, _) => Err(CheckFault::Unknown { at: *at }),
         Expr::Transform(at, _) => Err(CheckFault::Unknown { at: *at }),
         Expr::Index(a, i) => {
             let base = a.get();

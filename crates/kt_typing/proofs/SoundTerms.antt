@@ -2,7 +2,7 @@
 use Rattle.std.proofs.Common.{◌≡◌, ℕ, pos, negsuc, ◌+◌, ◌==◌, Bool, true, false, List, [], ◌∷◌, length, slice_get, Option, Some, None, Result, Err, if◌then◌else◌, refl}
 use Rattle.std.specs.List.{AllByRecursion}
 use Rattle.kt_grammar.specs.declared.tree.Name.{Name}
-use Rattle.kt_grammar.specs.Tree.{Term, Constant, Character, Text, Null, Eof, Named, Called, Parenthesised, SizeOf, RuleValue, OldSymbol, Transformed, Element, Member, Pointed, Stepped, Prefixed, Converted, Operated, Chosen, Assigned, Terms, Nothing, More}
+use Rattle.kt_grammar.specs.Tree.{Term, Constant, Character, Text, Null, Eof, Named, Called, Parenthesised, SizeOf, RuleValue, OldSymbol, Transformed, NewObject, Element, Member, Pointed, Stepped, Prefixed, Converted, Operated, Chosen, Assigned, Terms, Nothing, More}
 use Rattle.kt_tree.specs.declared.expr.Constant.TheVariants as constant
 use Rattle.kt_tree.specs.declared.expr.Request.TheVariants as request
 use Rattle.kt_tree.specs.Kinds.{Head, int_type}
@@ -121,6 +121,7 @@ module _ (env : Environment) (right : IsRight env) where
     form-sound u (SizeOf at t) = leaf-sound env.scope _ (size-sound env at (struct_place t.base at) t)
     form-sound u (RuleValue at w) = leaf-sound env.scope _ (meant-sound env at at (env.word w) (right.words w))
     form-sound u (OldSymbol at n) = leaf-sound env.scope _ (meant-sound env at n.at (env.old_symbol n.word) (right.symbols n.word))
+    form-sound u (NewObject at f) = leaf-sound env.scope _ (sound-err env.scope (bad_type at))
     form-sound u (Transformed at a) =
         of-one-sound env at (wrong env use_as.Value) (form env use_as.Value a) (λ x. Err (bad_type at)) (form-sound use_as.Value a)
         (λ x h. sound-err env.scope (bad_type at))

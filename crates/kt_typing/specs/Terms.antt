@@ -7,7 +7,7 @@ use Rattle.kt_grammar.specs.declared.operator.PrefixOperator.TheVariants as pref
 use Rattle.kt_grammar.specs.declared.tree.Base.{Base}
 use Rattle.kt_grammar.specs.declared.tree.Base.TheVariants as base
 use Rattle.kt_grammar.specs.declared.tree.Name.{Name}
-use Rattle.kt_grammar.specs.Tree.{Term, Constant, Character, Text, Null, Eof, Named, Called, Parenthesised, SizeOf, RuleValue, OldSymbol, Transformed, Element, Member, Pointed, Stepped, Prefixed, Converted, Operated, Chosen, Assigned, Terms, Nothing, More}
+use Rattle.kt_grammar.specs.Tree.{Term, Constant, Character, Text, Null, Eof, Named, Called, Parenthesised, SizeOf, RuleValue, OldSymbol, Transformed, NewObject, Element, Member, Pointed, Stepped, Prefixed, Converted, Operated, Chosen, Assigned, Terms, Nothing, More}
 use Rattle.kt_tree.specs.declared.expr.Constant.TheVariants as constant
 use Rattle.kt_tree.specs.Kinds.{is_scalar, int_type}
 use Rattle.kt_typing.specs.declared.builtin.Builtin.{Builtin}
@@ -37,6 +37,7 @@ first_token (Parenthesised at a) = at
 first_token (SizeOf at t) = at
 first_token (RuleValue at w) = at
 first_token (OldSymbol at n) = at
+first_token (NewObject at f) = at
 first_token (Transformed at a) = at
 first_token (Element a i) = first_token a
 first_token (Member a f) = first_token a
@@ -150,6 +151,7 @@ abbrev mutual
   form env u (SizeOf at t) = leaf (size env at (struct_place t.base at) t)
   form env u (RuleValue at w) = leaf (meant at at (env.word w))
   form env u (OldSymbol at n) = leaf (meant at n.at (env.old_symbol n.word))
+  form env u (NewObject at f) = leaf (Err (bad_type at))
   form env u (Transformed at a) = of_one env at use_as.Value (form env use_as.Value a) (λ x. Err (bad_type at))
   form env u (Element a i) =
       of_two env (first_token a) use_as.Indexed (form env use_as.Indexed a) use_as.Value (form env use_as.Value i) (element env (first_token a))

@@ -2,6 +2,7 @@
 use kt_code::{Code, Entries, Frame, Frames, Instr, Instrs, Locals, Operands, Private};
 use kt_mem::{KeptLocal, KeptLocals, Mode, Stored, Value};
 use kt_types::Points;
+use std::alloc::{AllocError, Global};
 use std::test::Fail;
 
 /// A number, as it is kept.
@@ -9,9 +10,8 @@ fn num(n: i64) -> Stored {
     Stored::of(Value::Num(n))
 }
 
-#[test]
-fn private_states_are_copied(rt: HostRuntime) -> Result<(), Fail> {
-    let alloc = rt.alloc();
+/// A state with three calls open.
+fn private_state(alloc: Global) -> Result<Private, AllocError> {
     let mut frames = Frames::new(alloc);
     for function in 0..3 {
         frames.push(Frame {
@@ -31,13 +31,37 @@ fn private_states_are_copied(rt: HostRuntime) -> Result<(), Fail> {
             value: Value::Num(9)
         },
     ]?;
-    let private = Private {
+    Ok(Private {
         version: 2,
         frames,
         operands,
         mode: Mode::Updating(1),
         locals: KeptLocals::from_vec(kept),
-    };
+    })
+}
+
+#[test]
+fn private_states_are_compared(rt: HostRuntime) -> Result<(), Fail> {
+    let private = private_state(rt.alloc())?;
+    let mut copy = private.copy()?;
+    assert!(rt; private.is(&copy));
+    copy.mode = Mode::Updating(0);
+    assert!(rt; !private.is(&copy));
+    copy = private.copy()?;
+    copy.operands.discard(1);
+    assert!(rt; !private.is(&copy));
+    copy = private.copy()?;
+    copy.frames.pop();
+    assert!(rt; !private.is(&copy));
+    copy = private.copy()?;
+    copy.locals = KeptLocals::from_vec(Vec::new(rt.alloc()));
+    assert!(rt; !private.is(&copy));
+    Ok(())
+}
+
+#[test]
+fn private_states_are_copied(rt: HostRuntime) -> Result<(), Fail> {
+    let private = private_state(rt.alloc())?;
     let mut copy = private.copy()?;
     assert_eq!(rt;
         (

@@ -56,7 +56,7 @@ k0-3 k4-19 i20-24 `int pthread_mutex_t ints
 k0-4 k5-8 k9-13 k14-24 `NULL EOF INIT E_PTRARRAY
 n0-1 n2-3 n4-14 n15-18 n19-21 `0 7 2147483647 10L 0l
 c0-3 c4-7 c8-11 `'a' '\"' ' '
-r0-3 r4-8 r9-14 r15-22 r23-29 `$in $out $base $oldsym $xform
+r0-3 r4-8 r9-14 r15-22 r23-29 r30-34 `$in $out $base $oldsym $xform $new
 s0-1 s1-2 s2-3 s3-4 s4-5 s5-6 s6-7 s7-8 s8-9 `{}()[];,.
 s0-1 s2-3 s4-5 s6-7 s8-9 s10-11 s12-13 s14-15 s16-17 s18-19 s20-21 s22-23 `? : = < > + - * / % ! &
 s0-2 s3-5 s6-8 s9-11 s12-14 s15-17 s18-20 s21-23 `-> :: == != <= >= ++ --

@@ -295,6 +295,8 @@ fn cells_keep_values(rt: HostRuntime) {
     ] {
         let cell = Cell::new(Ty::Ptr(5), value);
         assert!(rt; cell.ty() == Ty::Ptr(5) && cell.value() == value);
+        assert!(rt; cell.stored(Ty::Ptr(5)).map(|v| v.value()) == Some(value));
+        assert!(rt; cell.stored(Ty::Ptr(4)).is_none() && cell.stored(Ty::Int).is_none());
         let kept = Stored::of(value);
         assert!(rt; kept.value() == value);
         assert!(rt; kept.number().is_some() == matches!(value, Value::Num(_)));

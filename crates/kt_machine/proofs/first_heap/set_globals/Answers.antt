@@ -3,7 +3,7 @@ use Rattle.kt_types.specs.Layout.{cells, IsComplete}
 use Rattle.kt_types.specs.Table.{Table}
 use Rattle.kt_mem.specs.declared.memory.Name.TheVariants.{Glob}
 use Rattle.kt_mem.specs.Memory.{Memory, Object}
-use Rattle.kt_flat.specs.Heap.{memory, with_object}
+use Rattle.kt_heap.specs.Heap.{memory, with_object}
 use Rattle.kt_lone.specs.Update.{global_object}
 use Rattle.kt_machine.proofs.FirstMemory.{globals-more, globals-all, global-is, item-at}
 use Rattle.kt_machine.proofs.first_heap.set_globals.Goals as goal

@@ -1,5 +1,5 @@
 use Rattle.std.proofs.Common.{◌≡◌}
-use Rattle.kt_flat.specs.Heap.{memory, given}
+use Rattle.kt_heap.specs.Heap.{memory, given}
 use Rattle.kt_machine.proofs.FirstMemory.{globals_first}
 use Rattle.kt_machine.proofs.first_heap.set_globals.Given as goal
 

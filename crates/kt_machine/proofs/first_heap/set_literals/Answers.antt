@@ -1,7 +1,7 @@
 use Rattle.std.proofs.Common.{◌≡◌, ℕ, List, length, refl, ◌∙◌, ap, arith}
 use Rattle.kt_mem.specs.declared.memory.Name.TheVariants.{Lit}
 use Rattle.kt_mem.specs.Memory.{Memory, Object}
-use Rattle.kt_flat.specs.Heap.{memory, with_object}
+use Rattle.kt_heap.specs.Heap.{memory, with_object}
 use Rattle.kt_lone.specs.Update.{literal_object}
 use Rattle.kt_machine.proofs.FirstMemory.{literals-more, literals-all, item-at}
 use Rattle.kt_machine.proofs.first_heap.set_literals.Goals as goal

@@ -1,5 +1,5 @@
 use Rattle.kt_types.specs.declared.kinds.Ty.TheVariants as ty
-use Rattle.kt_flat.specs.Heap.{memory}
+use Rattle.kt_heap.specs.Heap.{memory}
 use Rattle.kt_mem.specs.Memory.{store}
 use Rattle.kt_machine.proofs.Memory.{store-literals, answer-left, answer-literals}
 use Rattle.kt_machine.proofs.mutex.set.Goals as goal

@@ -1,5 +1,5 @@
 use Rattle.std.proofs.Common.{◌+◌, drop, subst}
-use Rattle.kt_flat.specs.Heap.{memory}
+use Rattle.kt_heap.specs.Heap.{memory}
 use Rattle.kt_meaning.specs.Effects.{piece_text, pieces_text}
 use Rattle.kt_machine.specs.Printing.{IsPutUpTo}
 use Rattle.kt_machine.proofs.Printing.{put-part, put-failed, pieces-step}

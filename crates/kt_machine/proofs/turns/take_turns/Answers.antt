@@ -1,6 +1,6 @@
 use Rattle.std.proofs.Common.{Some, sym, ap, ◌∙◌}
 use Rattle.kt_lone.specs.Plain.{job_of}
-use Rattle.kt_machine.proofs.RunLemmas.{at_first, is_ready, live, nearer, ran, turned, version-within}
+use Rattle.kt_machine.proofs.RunLemmas.{at_first, is_ready, live, nearer, ran, under-way, version-within}
 use Rattle.kt_machine.proofs.turns.take_turns.Goals as goal
 
 pub loop-how-init : goal.loop-how-init
@@ -21,7 +21,7 @@ turn-requires-clause-live c =
 pub turn-requires-clause-ready : goal.turn-requires-clause-ready
 turn-requires-clause-ready c =
     is_ready (job_of c.args.job.now) c.args.codes.now c.requires.codes c.requires.typed c.loop-how.machine c.loop-how.invariant
-    (sym c.ended.ensures ∙ c.in_default.is)
+    (sym c.ended.ensures ∙ c.in_default.is) c.law.ensures.once
 
 pub loop-how-smaller : goal.loop-how-smaller
 loop-how-smaller c =
@@ -30,7 +30,7 @@ loop-how-smaller c =
 
 pub loop-how-preserved : goal.loop-how-preserved
 loop-how-preserved c =
-    turned (job_of c.args.job.now) c.args.codes.now c.requires.codes c.requires.typed c.loop-how.machine c.loop-how.invariant
+    under-way (job_of c.args.job.now) c.args.codes.now c.requires.codes c.requires.typed c.loop-how.machine c.loop-how.invariant
     (sym c.ended.ensures ∙ c.in_default.is) c.turn.new.self c.in_default-turn.ensures.world c.in_default-turn.ensures.settled
 
 pub returns-in-Some : goal.returns-in-Some

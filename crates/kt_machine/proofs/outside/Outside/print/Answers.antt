@@ -1,18 +1,20 @@
-use Rattle.std.proofs.Common.{◌≡◌, drop, subst}
-use Rattle.std.proofs.lemmas.Result.{IfOk-weaker}
-use Rattle.kt_flat.specs.Heap.{memory}
-use Rattle.kt_mem.specs.declared.steps.Reply.{Reply}
-use Rattle.kt_meaning.specs.Effects.{Replies, Shared, pieces_text, writes}
-use Rattle.kt_machine.specs.Outside.{Outside, shown}
+use Rattle.std.proofs.Common.{drop, sym, subst}
+use Rattle.kt_heap.specs.Heap.{given}
+use Rattle.kt_exec.specs.Renaming.{IsOld, PiecesIn}
+use Rattle.kt_machine.specs.Outside.{Outside, pairs_in}
+use Rattle.kt_machine.proofs.ByAddress.{pieces-written, plain-in}
 use Rattle.kt_machine.proofs.outside.Outside.print.Goals as goal
 
-pub returns : goal.returns
-returns c =
+pub returns-clause-writes : goal.returns-clause-writes
+returns-clause-writes c =
+    let h = c.self.inside.heap in
+    let ps = given h in
     let pieces = c.args.pieces.now in
-    let old : Shared = record { memory = memory c.self.inside.heap; input = drop c.self.inside.read c.self.inside.input.items; output = c.self.inside.output.items } in
-    let new : Shared = record old { output = c.print.new.output.items } in
-    IfOk-weaker c.print.result
-    (λ (r : Reply). (s : Shared) → writes (record s { output = c.self.inside.output.items }) (pieces_text (memory c.self.inside.heap) pieces) ≡ Replies r (record s { output = c.print.new.output.items }))
-    (λ (r : Reply). writes (shown c.args.self.now) (pieces_text (memory c.args.self.now.heap) pieces) ≡ Replies r new)
-    (λ r h. subst (λ (o : Outside). writes (shown o) (pieces_text (memory o.heap) pieces) ≡ Replies r new) c.self.view_is (h old))
-    c.print.ensures
+    let old : Outside = record { heap = h; input = drop c.self.inside.read c.self.inside.input.items; output = c.self.inside.output.items } in
+    let new : Outside = record old { output = c.print.new.output.items } in
+    pieces-written old c.args.self.now c.self.view_is c.print.new.output.items pieces c.law.ensures.pairing
+    (subst (λ (o : Outside). PiecesIn (IsOld (pairs_in o)) pieces) (sym c.self.view_is) c.requires)
+    c.print.result c.print.ensures.text c.print.ensures.names
+
+pub returns-clause-names : goal.returns-clause-names
+returns-clause-names c = plain-in (IsOld (given c.self.inside.heap)) c.print.result c.print.ensures.names

@@ -1,4 +1,0 @@
-pub mod Objects
-pub mod ByAddress
-pub mod Heap
-pub mod Inside

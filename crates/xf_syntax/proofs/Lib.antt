@@ -1,0 +1,13 @@
+pub mod Nodes
+pub mod Deep
+pub mod Ends
+pub mod Fronts
+pub mod Signs
+pub mod Loops
+pub mod Acts
+pub mod RulesBack
+pub mod ActStands
+pub mod RuleStands
+pub mod ActFaults
+pub mod RuleFaults
+pub mod RulesLocal
