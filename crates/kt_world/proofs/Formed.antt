@@ -20,9 +20,8 @@ use Rattle.kt_mem.proofs.Changes.{alloc_ok, and_then_ok, release_ok, written_ok}
 use Rattle.kt_mem.proofs.MemoryLaws.{same_shape-with}
 use Rattle.kt_mem.proofs.Names.{put-cases, put-other, put-same, same_name}
 use Rattle.kt_tree.specs.declared.global.GlobalDecl.{GlobalDecl}
-use Rattle.xf_plan.specs.KeepsTypes.{IsOfChars, IsSmall}
+use Rattle.xf_plan.specs.KeepsTypes.{HasGlobals, IsOfChars, IsSmall}
 use Rattle.xf_plan.proofs.TypedImages.{fresh-formed}
-use Rattle.kt_world.specs.Typed.{HasGlobals}
 
 -- ---- objects of a form
 

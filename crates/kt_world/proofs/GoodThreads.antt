@@ -152,12 +152,3 @@ module _ (v : ℕ) (o : Option Program) (p : Program) (at : o ≡ Some p) (progr
       settled (tree_entry o f arguments r)
       (subst (λ q. IsThread p (tree_entry q f arguments r)) (sym at)
       (subst (λ q. IsThread p (entry_in f arguments r q)) (sym is.function_is) (entered p program f arguments r is i)))
-
-  -- ---- standings
-
-  abbrev pub Good : ℕ → Thread tree.Thread → Type 0
-  Good k th = IsGood v o p k th
-
-  -- takes turns or waits
-  abbrev pub IsUp : ℕ → Thread tree.Thread → Type 0
-  IsUp k th = IsThreadOf p th × OfNumber p k th.entry

@@ -27,9 +27,8 @@ use Rattle.kt_tree.specs.Kinds.{char_type, fits_in}
 use Rattle.kt_tree.specs.Version.{IsGlobal, IsProgram, Program, is_initial}
 use Rattle.kt_meaning.proofs.OperationTypes.{and-true}
 use Rattle.kt_meaning.specs.Laws.{IsTyped}
-use Rattle.xf_plan.specs.KeepsTypes.{IsMemoryOf}
-use Rattle.xf_plan.proofs.TypedImages.{Holds, IsObjectOf, all-append, all-get, all-hold, ty_of}
-use Rattle.kt_world.specs.Typed.{HasGlobals}
+use Rattle.xf_plan.specs.KeepsTypes.{HasGlobals, IsMemoryOf}
+use Rattle.xf_plan.proofs.TypedImages.{Holds, IsObjectOf, all-get, all-hold, repeated-hold, repeated-types, ty_of}
 use Rattle.kt_world.specs.Update.{char_cell, global_object, initial_cell, literal_object, object_at}
 
 -- ---- initial values
@@ -78,19 +77,6 @@ module _ (p : Program) (v place : ℕ) where
   initial-hold i t array at h = absurd (false≢true h)
 
 -- ---- cells of many elements
-
-repeated-hold : (n : ℕ) (cs : List Cell) → AllByRecursion Holds cs → AllByRecursion Holds (memory.repeated n cs)
-repeated-hold zero cs all = tt
-repeated-hold (suc n) cs all = all-append Holds cs (memory.repeated n cs) all (repeated-hold n cs all)
-
-map-append : {A B : Type 0} (f : A → B) (xs ys : List A) → map f (xs ++ ys) ≡ map f xs ++ map f ys
-map-append f [] ys = refl
-map-append f (x ∷ xs) ys = ap (λ rest. f x ∷ rest) (map-append f xs ys)
-
-repeated-types : (n : ℕ) (cs : List Cell) → map ty_of (memory.repeated n cs) ≡ repeated n (map ty_of cs)
-unfolding repeated
-repeated-types zero cs = refl
-repeated-types (suc n) cs = map-append ty_of cs (memory.repeated n cs) ∙ ap (λ rest. map ty_of cs ++ rest) (repeated-types n cs)
 
 initial-types : (v : ℕ) (i : Init) (ts : List Ty) → map ty_of (map (initial_cell v i) ts) ≡ ts
 initial-types v i [] = refl
@@ -160,9 +146,6 @@ module _ (p : Program) (h : IsProgram p) where
           chars = refl;
           small = tt;
         }
-
-    abbrev Others : (Name → Option Object) → Type 0
-    Others others = (n : Name) (o : Object) → others n ≡ Some o → (i : ℕ) → (n ≡ Glob i → ⊥) → IsObjectOf p.types n o
 
     -- the objects of the program beside others
     module _ (others : Name → Option Object) (literals : (w i : ℕ) (o : Object) → others (Lit w i) ≡ Some o → IsObjectOf p.types (Lit w i) o)

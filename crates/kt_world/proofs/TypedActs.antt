@@ -31,14 +31,14 @@ use Rattle.kt_meaning.specs.ThreadTypes.{IsThread}
 use Rattle.kt_meaning.specs.Values.{AreIn, is_of}
 use Rattle.kt_meaning.proofs.OperationTypes.{and-true}
 use Rattle.kt_types.specs.declared.kinds.Ty.TheVariants as ty
-use Rattle.xf_plan.specs.KeepsTypes.{AreKeptFor, IsMemoryOf}
+use Rattle.xf_plan.specs.KeepsTypes.{AreKeptFor, HasGlobals, IsMemoryOf}
 use Rattle.kt_phase.specs.declared.counters.Phase.{Phase}
 use Rattle.kt_phase.specs.declared.counters.Phase.TheVariants.{Run, Asked, Main, Others}
 use Rattle.kt_world.specs.Acts.{answered, at_point, awake, created, effect, elsewhere, ends, gone_on, joins, migrated, new_thread, on_outcome, signalled, waited, waiting_in, waits_for, with_new, with_shared, with_thread, woken, woken_first}
 use Rattle.kt_world.specs.Job.{Job, types_at, types_of, version_at}
 use Rattle.kt_world.specs.Refusals.{point_of}
 use Rattle.kt_world.specs.Trees.{tree_engine, tree_step}
-use Rattle.kt_world.specs.Typed.{HasGlobals, AreArguments, IsThreadOf, IsTypedShared}
+use Rattle.kt_world.specs.Typed.{AreArguments, IsThreadOf, IsTypedShared}
 use Rattle.kt_world.specs.Waiting.{joined}
 use Rattle.kt_world.specs.World.{Standing, Live, Waiter, Parked, Ended, Shared, Thread, World, outside_of, takes_turns, with_outside}
 use Rattle.kt_world.proofs.GoodThreads.{AllFrom, IsGood, IsGoodAs, OfNumber, begun, from-get, from-map, from-push, from-set, replied, step-keeps}

@@ -27,9 +27,9 @@ use Rattle.kt_meaning.specs.Effects.{Outcome, Replies, Waits, Elsewhere, leaves,
 use Rattle.kt_meaning.specs.Laws.{IsShared, IsTyped, LeavesShared}
 use Rattle.kt_meaning.specs.ThreadTypes.{IsTypedAct}
 use Rattle.kt_meaning.proofs.MemoryTypes.{effect-LeavesShared}
-use Rattle.xf_plan.specs.KeepsTypes.{AreKeptFor, AreValuesOf, IsKeptFor, IsMemoryOf, IsValueOf}
+use Rattle.xf_plan.specs.KeepsTypes.{AreKeptFor, AreValuesOf, HasGlobals, IsKeptFor, IsMemoryOf, IsValueOf}
 use Rattle.kt_world.specs.Acts.{migrated, placed, placed_at, placed_into, with_values}
-use Rattle.kt_world.specs.Typed.{HasGlobals, IsTypedShared}
+use Rattle.kt_world.specs.Typed.{IsTypedShared}
 use Rattle.kt_world.specs.World.{Shared, outside_of, with_outside}
 use Rattle.kt_mem.specs.Laws.{SameShape}
 use Rattle.kt_world.proofs.Formed.{IsFormed, alloc-formed, release-formed, same-form, written-formed}

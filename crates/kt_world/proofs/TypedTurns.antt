@@ -19,7 +19,7 @@ use Rattle.kt_phase.specs.declared.counters.Phase.TheVariants.{Run, Asked, Main,
 use Rattle.xf_plan.proofs.TypedImages.{IsObjectOf, RootGives, all-get, kept-globals-of, moved-object-of}
 use Rattle.xf_plan.specs.Images.{FreshPlace, faults, first_fault, fresh_places, is_too_big, kept_globals, live_cells, moved_object, sizes}
 use Rattle.kt_meaning.specs.Laws.{IsTyped}
-use Rattle.xf_plan.specs.KeepsTypes.{AreKeptFor, IsMemoryOf, KeepsTypes}
+use Rattle.xf_plan.specs.KeepsTypes.{AreKeptFor, HasGlobals, IsMemoryOf, KeepsTypes}
 use Rattle.xf_plan.specs.Plan.{Plan}
 use Rattle.xf_plan.specs.Reached.{distinct, reached}
 use Rattle.xf_plan.specs.declared.place.Root.{Root}
@@ -34,7 +34,7 @@ use Rattle.kt_world.specs.Refusals.{any_held, first_of, if_held, if_too_big, lac
 use Rattle.kt_world.specs.Roots.{thread_roots}
 use Rattle.kt_world.specs.Trees.{tree_engine, tree_step, world}
 use Rattle.kt_world.specs.Turns.{MayTurn, MayTurnAll, counted, first_function, first_memory, first_world, start, turn, world_from}
-use Rattle.kt_world.specs.Typed.{AreArguments, HasGlobals, IsTypedAs, IsTypedJob, IsTypedThread, IsTypedWorld, WorldsAreTyped}
+use Rattle.kt_world.specs.Typed.{AreArguments, IsTypedAs, IsTypedJob, IsTypedThread, IsTypedWorld, WorldsAreTyped}
 use Rattle.kt_world.specs.Update.{closing, decided, if_parked, let_go, refused, updated}
 use Rattle.kt_world.specs.Waiting.{any_enabled, enabled_if, is_enabled, is_turnable}
 use Rattle.kt_world.specs.World.{Standing, Live, Waiter, Parked, Ended, Shared, Thread, World, outside_of, takes_turns}
@@ -260,7 +260,7 @@ module _ (job : Job) (typed : IsTypedJob job) where
       fit-roots : AllByRecursion (RootFits j keeps m g.shared.memory v (version_at job v)) roots
       fit-roots = roots-fit job j keeps m g.shared.memory v new there w.threads g.threads enters
 
-      give : (rs : List Root) → AllByRecursion (RootFits j keeps m g.shared.memory v (version_at job v)) rs → AllByRecursion (RootGives j.old.types j.plan m g.shared.memory) rs
+      give : (rs : List Root) → AllByRecursion (RootFits j keeps m g.shared.memory v (version_at job v)) rs → AllByRecursion (RootGives j.old j.plan m g.shared.memory) rs
       give [] all = tt
       give (r ∷ rs) all = (all.0.gives, give rs all.1)
 
@@ -273,12 +273,12 @@ module _ (job : Job) (typed : IsTypedJob job) where
       literals : (u i : ℕ) (o : Object) → others (Lit u i) ≡ Some o → IsObjectOf j.new.types (Lit u i) o
       literals u i o is =
           subst (λ (t : Table). IsObjectOf t (Lit u i) o) keeps.types
-          (moved-object-of j.old.types j.plan m g.shared.memory roots j.new.globals keeps.objects keeps.globals (give roots fit-roots) fits keeps.chars chars (Lit u i) o refl is)
+          (moved-object-of j.old j.plan m g.shared.memory roots j.new.globals g.shared.globals keeps.objects keeps.globals (give roots fit-roots) fits keeps.chars chars (Lit u i) o refl is)
 
       objects : (a : ℕ) (o : Object) → others (Heap a) ≡ Some o → IsObjectOf j.new.types (Heap a) o
       objects a o is =
           subst (λ (t : Table). IsObjectOf t (Heap a) o) keeps.types
-          (moved-object-of j.old.types j.plan m g.shared.memory roots j.new.globals keeps.objects keeps.globals (give roots fit-roots) fits keeps.chars chars (Heap a) o refl is)
+          (moved-object-of j.old j.plan m g.shared.memory roots j.new.globals g.shared.globals keeps.objects keeps.globals (give roots fit-roots) fits keeps.chars chars (Heap a) o refl is)
 
       updated-good : GoodWorld (updated (tree_engine job) j w roots)
       updated-good = record {
@@ -289,7 +289,7 @@ module _ (job : Job) (typed : IsTypedJob job) where
             outside = record { memory = begun-typed j.new new (suc v) others literals objects (m.next + length fresh) (live_cells j.plan m names fresh); input = g.shared.outside.input; output = g.shared.outside.output };
             memory = begun-memory j.new new (suc v) others literals objects (m.next + length fresh) (live_cells j.plan m names fresh);
             globals = begun-globals j.new new (suc v) others literals objects (m.next + length fresh) (live_cells j.plan m names fresh);
-            kept = subst (λ (t : Table). AreKeptFor t j.new.globals (kept_globals j.plan m fresh 0 j.plan.globals)) keeps.types (kept-globals-of j.old.types j.plan m g.shared.memory fresh 0 j.new.globals j.plan.globals keeps.globals);
+            kept = subst (λ (t : Table). AreKeptFor t j.new.globals (kept_globals j.plan m fresh 0 j.plan.globals)) keeps.types (kept-globals-of j.old j.plan m g.shared.memory g.shared.globals fresh 0 j.new.globals j.plan.globals keeps.globals);
           };
           threads = restarted-good job j keeps m g.shared.memory v new there w.threads g.threads enters parked;
         };

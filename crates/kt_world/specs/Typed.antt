@@ -2,27 +2,19 @@
 -- its count says, and each cell, each kept value and each argument is of its type or undefined.
 use Rattle.std.specs.Prelude.{◌≡◌, ℕ, ◌<◌, List, slice_get, Some}
 use Rattle.std.specs.List.{AllByRecursion}
-use Rattle.kt_mem.specs.declared.memory.Name.TheVariants.{Glob}
 use Rattle.kt_mem.specs.declared.memory.Value.{Value}
-use Rattle.kt_mem.specs.Memory.{Memory, Object}
-use Rattle.kt_tree.specs.declared.global.GlobalDecl.{GlobalDecl}
 use Rattle.kt_tree.specs.Tree.{Function}
 use Rattle.kt_tree.specs.Version.{Program, IsProgram, head_of}
 use Rattle.kt_meaning.specs.Laws.{IsShared}
 use Rattle.kt_meaning.specs.Thread as tree
 use Rattle.kt_meaning.specs.ThreadTypes.{IsThread}
 use Rattle.kt_meaning.specs.Values.{AreIn}
-use Rattle.xf_plan.specs.KeepsTypes.{AreKeptFor, IsMemoryOf, KeepsTypes}
+use Rattle.xf_plan.specs.KeepsTypes.{AreKeptFor, HasGlobals, IsMemoryOf, KeepsTypes}
 use Rattle.kt_world.specs.Job.{Job, Passage, passage_at, version_at}
 use Rattle.kt_world.specs.Trees.{AreTurnsOf, world}
 use Rattle.kt_world.specs.World.{Standing, Live, Waiter, Parked, Ended, Shared, Thread, World, outside_of}
 
 -- ---- memory
-
--- each global has its object, of its type and count
-abbrev pub HasGlobals : List GlobalDecl → Memory → Type 0
-HasGlobals globals m =
-    (i : ℕ) (d : GlobalDecl) → slice_get globals i ≡ Some d → (o : Object) × (m.at (Glob i) ≡ Some o) × (o.ty ≡ d.ty) × (o.count ≡ d.count)
 
 -- what is shared is typed, where this version is in force
 pub record IsTypedShared (p : Program) (s : Shared) : Type 0 where

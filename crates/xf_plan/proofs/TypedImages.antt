@@ -18,9 +18,10 @@ use Rattle.kt_mem.specs.Memory as memory
 use Rattle.xf_plan.specs.Correspondence.{corresponds, new_type}
 use Rattle.kt_tree.specs.Kinds.{char_type}
 use Rattle.xf_plan.specs.Images.{FreshPlace, all_spots, below, cell_at, fresh_in, fresh_made, fresh_number, fresh_objects, fresh_places, heap_image, heap_numbers, if_lives, if_reached, image_of, is_too_big, kept_cells, kept_globals, value_at, moved, moved_object, new_value, size_at, sizes, to_fresh, to_global}
-use Rattle.xf_plan.specs.KeepsTypes.{AreKeptFor, AreSpotsOf, AreValuesOf, GivesOf, IsKeptFor, IsMemoryOf, IsOfChars, IsSmall, IsValueOf, KeepsGlobal, KeepsGlobals, KeepsObjects}
+use Rattle.xf_plan.specs.KeepsTypes.{AreKeptFor, AreSpotsOf, AreValuesOf, GivesOf, HasGlobals, IsKeptFor, IsMemoryOf, IsOfChars, IsSmall, IsValueOf, KeepsGlobal, KeepsGlobals, KeepsObjects}
 use Rattle.xf_plan.specs.Sources.{Source, global_sources, width}
 use Rattle.kt_tree.specs.declared.global.GlobalDecl.{GlobalDecl}
+use Rattle.kt_tree.specs.Version.{Program}
 use Rattle.xf_plan.specs.Plan.{GlobalRule}
 use Rattle.xf_plan.specs.declared.place.Place.TheVariants.{GlobalCell}
 use Rattle.xf_plan.specs.Extents.{global_cells}
@@ -132,14 +133,14 @@ Holds c = IsValueOf c.ty c.value
 pub all-hold : (cs : List Cell) → AllByRecursion Holds cs → (k : ℕ) (c : Cell) → slice_get cs k ≡ Some c → Holds c
 all-hold cs all k c at = all-get Holds cs k c all at
 
-repeated-hold : (n : ℕ) (cs : List Cell) → AllByRecursion Holds cs → AllByRecursion Holds (memory.repeated n cs)
+pub repeated-hold : (n : ℕ) (cs : List Cell) → AllByRecursion Holds cs → AllByRecursion Holds (memory.repeated n cs)
 repeated-hold zero cs all = tt
 repeated-hold (suc n) cs all = all-append Holds cs (memory.repeated n cs) all (repeated-hold n cs all)
 
 abbrev pub ty_of : Cell → Ty
 ty_of c = c.ty
 
-repeated-types : (n : ℕ) (cs : List Cell) → map ty_of (memory.repeated n cs) ≡ repeated n (map ty_of cs)
+pub repeated-types : (n : ℕ) (cs : List Cell) → map ty_of (memory.repeated n cs) ≡ repeated n (map ty_of cs)
 unfolding repeated
 repeated-types zero cs = refl
 repeated-types (suc n) cs = map-append ty_of cs (memory.repeated n cs) ∙ ap (λ rest. map ty_of cs ++ rest) (repeated-types n cs)
@@ -332,9 +333,9 @@ fresh-formed types number a count zeros ts has size =
       small-cells count ts (memory.repeated count made) same (subst (λ n. count * n ≤ 65536) (ap length own) size),
     )
 
-module _ (old : Table) (p : Plan) (m : Memory) (is : IsMemoryOf old m) where
+module _ (old : Program) (p : Plan) (m : Memory) (is : IsMemoryOf old.types m) where
   -- the image of a heap object
-  image-of : KeepsObjects old p → (fresh : List FreshPlace) (a : ℕ) (o : Object) (b : ℕ) → m.at (Heap a) ≡ Some o → new_type p o.ty ≡ Some b → size_at p (Some o) ≤ 65536
+  image-of : KeepsObjects old.types p → (fresh : List FreshPlace) (a : ℕ) (o : Object) (b : ℕ) → m.at (Heap a) ≡ Some o → new_type p o.ty ≡ Some b → size_at p (Some o) ≤ 65536
       → IsObjectOf p.new (Heap a) (heap_image p m fresh a o)
   image-of keeps fresh a o b at type size =
       let (ts, has, spots) = keeps m a b o is at type in
@@ -350,7 +351,7 @@ module _ (old : Table) (p : Plan) (m : Memory) (is : IsMemoryOf old m) where
       }
 
   -- a literal that is reached
-  literal-of : new_type p char_type ≡ Some char_type → layout p.new char_type ≡ layout old char_type → (fresh : List FreshPlace) (v i : ℕ) (o : Object) → m.at (Lit v i) ≡ Some o
+  literal-of : new_type p char_type ≡ Some char_type → layout p.new char_type ≡ layout old.types char_type → (fresh : List FreshPlace) (v i : ℕ) (o : Object) → m.at (Lit v i) ≡ Some o
       → IsObjectOf p.new (Lit v i) (image_of p m fresh (Lit v i) o)
   literal-of keeps chars fresh v i o at =
       let own : o.ty ≡ char_type = is.chars (Lit v i) o at in
@@ -359,7 +360,7 @@ module _ (old : Table) (p : Plan) (m : Memory) (is : IsMemoryOf old m) where
         holds = cells-hold o.cells (λ k c there. is.typed (Lit v i) o k c at there);
         shaped =
             ap (λ x. option_map (repeated o.count) (layout p.new x)) to ∙ ap (option_map (repeated o.count)) chars
-            ∙ ap (λ x. option_map (repeated o.count) (layout old x)) (sym own) ∙ is.shaped (Lit v i) o at;
+            ∙ ap (λ x. option_map (repeated o.count) (layout old.types x)) (sym own) ∙ is.shaped (Lit v i) o at;
         chars = to;
         small = tt;
       }
@@ -377,18 +378,18 @@ module _ (old : Table) (p : Plan) (m : Memory) (is : IsMemoryOf old m) where
 
   -- ---- all spots give what is of their types
 
-  global-spots-give : (i : ℕ) (globals : List GlobalDecl) (rules : List GlobalRule) → KeepsGlobals old p i globals rules → AllByRecursion (SpotGives p m) (global_spots p m i rules)
-  global-spots-give i [] [] h = tt
-  global-spots-give i [] (g ∷ rules) h = absurd h
-  global-spots-give i (d ∷ globals) [] h = absurd h
-  global-spots-give i (d ∷ globals) (g ∷ rules) h =
-      let rest = subst (λ n. AllByRecursion (SpotGives p m) (global_spots p m n rules)) (omega arith) (global-spots-give (i + 1) globals rules h.1) in
+  global-spots-give : HasGlobals old.globals m → (i : ℕ) (globals : List GlobalDecl) (rules : List GlobalRule) → KeepsGlobals old p i globals rules → AllByRecursion (SpotGives p m) (global_spots p m i rules)
+  global-spots-give named i [] [] h = tt
+  global-spots-give named i [] (g ∷ rules) h = absurd h
+  global-spots-give named i (d ∷ globals) [] h = absurd h
+  global-spots-give named i (d ∷ globals) (g ∷ rules) h =
+      let rest = subst (λ n. AllByRecursion (SpotGives p m) (global_spots p m n rules)) (omega arith) (global-spots-give named (i + 1) globals rules h.1) in
       all-append (SpotGives p m) (spots_of p m (GlobalCell i) (origin g.source) (global_cells p.new g) (global_sources p g g.source)) (global_spots p m (suc i) rules)
       (by (global_sources p g g.source) refl) rest
     where
       by : (o : Option (List Source)) → global_sources p g g.source ≡ o → AllByRecursion (SpotGives p m) (spots_of p m (GlobalCell i) (origin g.source) (global_cells p.new g) o)
       by None at = tt
-      by (Some sources) at = spots-give p m (repeated d.count (cells p.new d.ty)) _ (h.0.spots m sources is at)
+      by (Some sources) at = spots-give p m (repeated d.count (cells p.new d.ty)) _ (h.0.spots m sources is named at)
 
   abbrev pub RootGives : Root → Type 0
   RootGives r = GivesOf p r.ty r.value
@@ -397,13 +398,13 @@ module _ (old : Table) (p : Plan) (m : Memory) (is : IsMemoryOf old m) where
   added-spots-give [] h = tt
   added-spots-give (r ∷ roots) h = (h.0, added-spots-give roots h.1)
 
-  heap-spots-give : KeepsObjects old p → (a : ℕ) → Moves p m a → AllByRecursion (SpotGives p m) (heap_spots p m a)
+  heap-spots-give : KeepsObjects old.types p → (a : ℕ) → Moves p m a → AllByRecursion (SpotGives p m) (heap_spots p m a)
   heap-spots-give keeps a moves =
       let o = moves.object in
       let (ts, has, spots) = keeps m a moves.to o is moves.is moves.type in
       spots-give p m (repeated o.count ts) (heap_spots p m a) spots
 
-  module _ (roots : List Root) (globals : List GlobalDecl) (keeps : KeepsObjects old p) (rules : KeepsGlobals old p 0 globals p.globals) (gives : AllByRecursion RootGives roots) where
+  module _ (roots : List Root) (globals : List GlobalDecl) (named : HasGlobals old.globals m) (keeps : KeepsObjects old.types p) (rules : KeepsGlobals old p 0 globals p.globals) (gives : AllByRecursion RootGives roots) where
     abbrev names : List Name
     names = reached p m roots
 
@@ -413,7 +414,7 @@ module _ (old : Table) (p : Plan) (m : Memory) (is : IsMemoryOf old m) where
     all-spots-give : AllByRecursion (SpotGives p m) (all_spots p m roots)
     all-spots-give =
         all-append (SpotGives p m) (root_spots p m roots) (flat_map (heap_spots p m) (heap_numbers m names))
-        (all-append (SpotGives p m) (global_spots p m 0 p.globals) (added_spots p m roots) (global-spots-give 0 globals p.globals rules) (added-spots-give roots gives))
+        (all-append (SpotGives p m) (global_spots p m 0 p.globals) (added_spots p m roots) (global-spots-give named 0 globals p.globals rules) (added-spots-give roots gives))
         (all-flat (Moves p m) (SpotGives p m) (heap_spots p m) (heap-spots-give keeps) (heap_numbers m names)
         (all-passing (Moves p m) (λ a. is_among names (Heap a)) (reached-moves p m roots) (below m.next)))
 
@@ -435,8 +436,8 @@ module _ (old : Table) (p : Plan) (m : Memory) (is : IsMemoryOf old m) where
       abbrev Low : ℕ → Type 0
       Low n = n ≤ 65536
 
-      low : (n : ℕ) → nat_lt 65536 n ≡ false → Low n
-      low n h = let lt = ltb-false 65536 n h in omega (arith, lt)
+      is-low : (n : ℕ) → nat_lt 65536 n ≡ false → Low n
+      is-low n h = let lt = ltb-false 65536 n h in omega (arith, lt)
 
       either-false : (a b : Bool) → (a || b) ≡ false → (a ≡ false) × (b ≡ false)
       either-false true b h = absurd cc
@@ -444,7 +445,7 @@ module _ (old : Table) (p : Plan) (m : Memory) (is : IsMemoryOf old m) where
 
       all-low : AllByRecursion Low (sizes p m (distinct names) fresh)
       all-low =
-          all-each (λ n. nat_lt 65536 n ≡ false) Low low (sizes p m (distinct names) fresh)
+          all-each (λ n. nat_lt 65536 n ≡ false) Low is-low (sizes p m (distinct names) fresh)
           (any-false (nat_lt 65536) (sizes p m (distinct names) fresh) (either-false (list_any (nat_lt 65536) (sizes p m (distinct names) fresh)) (nat_lt 4194304 (sum (sizes p m (distinct names) fresh))) fits).0)
 
       images-low : AllByRecursion (λ n. Low (size_at p (m.at n))) (distinct names)
@@ -460,10 +461,10 @@ module _ (old : Table) (p : Plan) (m : Memory) (is : IsMemoryOf old m) where
 
       fresh-list : (k : ℕ) (places : List FreshPlace) → AllByRecursion IsCompletePlace places → AllByRecursion (λ f. Low (f.count * width p.new f.ty)) places
           → AllByRecursion (λ o. (a : ℕ) → IsObjectOf p.new (Heap a) o) (fresh_objects p m k places)
-      fresh-list k [] complete low = tt
-      fresh-list k (f ∷ places) complete low = (λ a. fresh-object-of k f a complete.0 low.0, fresh-list (suc k) places complete.1 low.1)
+      fresh-list k [] complete small = tt
+      fresh-list k (f ∷ places) complete small = (λ a. fresh-object-of k f a complete.0 small.0, fresh-list (suc k) places complete.1 small.1)
 
-      if-reached-of : new_type p char_type ≡ Some char_type → layout p.new char_type ≡ layout old char_type → (n : Name) (b : Bool) → is_among names n ≡ b → is_moved n ≡ true
+      if-reached-of : new_type p char_type ≡ Some char_type → layout p.new char_type ≡ layout old.types char_type → (n : Name) (b : Bool) → is_among names n ≡ b → is_moved n ≡ true
           → (o q : Object) → m.at n ≡ Some o → (if b then Some (image_of p m fresh n o) else None) ≡ Some q → IsObjectOf p.new n q
       if-reached-of char chars n false none moves o q at is-it = absurd cc
       if-reached-of char chars (Glob g) true among moves o q at is-it = absurd cc
@@ -476,7 +477,7 @@ module _ (old : Table) (p : Plan) (m : Memory) (is : IsMemoryOf old m) where
           subst (IsObjectOf p.new (Heap a)) (same_Some (heap_image p m fresh a o) q is-it)
           (image-of keeps fresh a o its.to at (subst (λ (x : Object). new_type p x.ty ≡ Some its.to) same its.type) size)
 
-      pub moved-object-of : new_type p char_type ≡ Some char_type → layout p.new char_type ≡ layout old char_type → (n : Name) (q : Object) → is_moved n ≡ true
+      pub moved-object-of : new_type p char_type ≡ Some char_type → layout p.new char_type ≡ layout old.types char_type → (n : Name) (q : Object) → is_moved n ≡ true
           → moved_object p m names fresh n ≡ Some q → IsObjectOf p.new n q
       moved-object-of char chars (Glob g) q moves at = absurd cc
       moved-object-of char chars (Lit v i) q moves at = by-old (m.at (Lit v i)) refl at
@@ -511,18 +512,18 @@ module _ (old : Table) (p : Plan) (m : Memory) (is : IsMemoryOf old m) where
   spots-values fresh (t ∷ ts) [] h = absurd h
   spots-values fresh (t ∷ ts) (s ∷ spots) h = (new_value-of p m fresh s.place t s.pre h.1, spots-values fresh ts spots h.2)
 
-  kept-cells-of : (fresh : List FreshPlace) (i : ℕ) (d : GlobalDecl) (g : GlobalRule) → KeepsGlobal old p i d g → IsKeptFor p.new d (kept_cells p m fresh i g)
-  kept-cells-of fresh i d g keeps = by (global_sources p g g.source) refl
+  kept-cells-of : HasGlobals old.globals m → (fresh : List FreshPlace) (i : ℕ) (d : GlobalDecl) (g : GlobalRule) → KeepsGlobal old p i d g → IsKeptFor p.new d (kept_cells p m fresh i g)
+  kept-cells-of named fresh i d g keeps = by (global_sources p g g.source) refl
     where
       by : (o : Option (List Source)) → global_sources p g g.source ≡ o
           → IsKeptFor p.new d (option_map (λ sources. map (value_at p m fresh) (spots_of p m (GlobalCell i) (origin g.source) (global_cells p.new g) (Some sources))) o)
       by None at = tt
-      by (Some sources) at = spots-values fresh (repeated d.count (cells p.new d.ty)) _ (keeps.spots m sources is at)
+      by (Some sources) at = spots-values fresh (repeated d.count (cells p.new d.ty)) _ (keeps.spots m sources is named at)
 
-  pub kept-globals-of : (fresh : List FreshPlace) (i : ℕ) (globals : List GlobalDecl) (rules : List GlobalRule) → KeepsGlobals old p i globals rules
+  pub kept-globals-of : HasGlobals old.globals m → (fresh : List FreshPlace) (i : ℕ) (globals : List GlobalDecl) (rules : List GlobalRule) → KeepsGlobals old p i globals rules
       → AreKeptFor p.new globals (kept_globals p m fresh i rules)
-  kept-globals-of fresh i [] [] h = tt
-  kept-globals-of fresh i [] (g ∷ rules) h = absurd h
-  kept-globals-of fresh i (d ∷ globals) [] h = absurd h
-  kept-globals-of fresh i (d ∷ globals) (g ∷ rules) h =
-      (kept-cells-of fresh i d g h.0, subst (λ n. AreKeptFor p.new globals (kept_globals p m fresh n rules)) (omega arith) (kept-globals-of fresh (i + 1) globals rules h.1))
+  kept-globals-of named fresh i [] [] h = tt
+  kept-globals-of named fresh i [] (g ∷ rules) h = absurd h
+  kept-globals-of named fresh i (d ∷ globals) [] h = absurd h
+  kept-globals-of named fresh i (d ∷ globals) (g ∷ rules) h =
+      (kept-cells-of named fresh i d g h.0, subst (λ n. AreKeptFor p.new globals (kept_globals p m fresh n rules)) (omega arith) (kept-globals-of named fresh (i + 1) globals rules h.1))

@@ -8,7 +8,7 @@ use Rattle.kt_types.specs.declared.kinds.Ty.TheVariants as ty
 use Rattle.kt_types.specs.Layout.{cells, layout, repeated}
 use Rattle.kt_types.specs.Table.{Table}
 use Rattle.kt_mem.specs.declared.memory.Name.{Name}
-use Rattle.kt_mem.specs.declared.memory.Name.TheVariants.{Lit, Heap}
+use Rattle.kt_mem.specs.declared.memory.Name.TheVariants.{Glob, Lit, Heap}
 use Rattle.kt_mem.specs.declared.memory.Value.{Value}
 use Rattle.kt_mem.specs.declared.memory.Value.TheVariants.{Undef}
 use Rattle.kt_mem.specs.declared.steps.Trap.{Trap}
@@ -49,6 +49,11 @@ pub record IsMemoryOf (types : Table) (m : Memory) : Type 0 where
   pub shaped : IsShaped (layout types) m
   pub chars : (n : Name) (o : Object) → m.at n ≡ Some o → IsOfChars n o
   pub small : (n : Name) (o : Object) → m.at n ≡ Some o → IsSmall n o
+
+-- each global has its object, of its type and count
+abbrev pub HasGlobals : List GlobalDecl → Memory → Type 0
+HasGlobals globals m =
+    (i : ℕ) (d : GlobalDecl) → slice_get globals i ≡ Some d → (o : Object) × (m.at (Glob i) ≡ Some o) × (o.ty ≡ d.ty) × (o.count ≡ d.count)
 
 -- ---- values
 
@@ -101,15 +106,15 @@ KeepsObjects old p =
     → (ts : List Ty) × (layout p.new b ≡ Some ts) × AreSpotsOf p (repeated o.count ts) (heap_spots p m a)
 
 -- a mapped global, which is the new version's of that number, has its cells
-pub record KeepsGlobal (old : Table) (p : Plan) (i : ℕ) (d : GlobalDecl) (g : GlobalRule) : Type 0 where
+pub record KeepsGlobal (old : Program) (p : Plan) (i : ℕ) (d : GlobalDecl) (g : GlobalRule) : Type 0 where
   pub ty : g.ty ≡ d.ty
   pub count : g.count ≡ d.count
   pub spots :
-      (m : Memory) (sources : List Source) → IsMemoryOf old m → global_sources p g g.source ≡ Some sources
+      (m : Memory) (sources : List Source) → IsMemoryOf old.types m → HasGlobals old.globals m → global_sources p g g.source ≡ Some sources
       → AreSpotsOf p (repeated d.count (cells p.new d.ty)) (spots_of p m (GlobalCell i) (origin g.source) (global_cells p.new g) (Some sources))
 
 -- the rules of the new version's globals, counted from i
-abbrev pub KeepsGlobals : Table → Plan → ℕ → List GlobalDecl → List GlobalRule → Type 0
+abbrev pub KeepsGlobals : Program → Plan → ℕ → List GlobalDecl → List GlobalRule → Type 0
 KeepsGlobals old p i [] [] = Unit {0}
 KeepsGlobals old p i (d ∷ globals) (g ∷ rules) = KeepsGlobal old p i d g × KeepsGlobals old p (i + 1) globals rules
 KeepsGlobals old p i globals rules = ⊥
@@ -149,6 +154,6 @@ pub record KeepsTypes (old new : Program) (p : Plan) : Type 0 where
   -- `char` corresponds to itself
   pub chars : new_type p char_type ≡ Some char_type
   pub objects : KeepsObjects old.types p
-  pub globals : KeepsGlobals old.types p 0 new.globals p.globals
+  pub globals : KeepsGlobals old p 0 new.globals p.globals
   pub arguments : KeepsArguments old.types p
   pub locals : AllByRecursion (KeepsNoted old new p) p.locals
