@@ -7,7 +7,8 @@ use Rattle.kt_code.specs.Code.{Code}
 use Rattle.kt_code.specs.Machine.{step}
 use Rattle.kt_code.specs.Settling.{settle, head_of}
 use Rattle.kt_code.specs.declared.private.Private.{Private}
-use Rattle.kt_exec.specs.Renaming.{Pairs, AreOneToOne, IsOld, PrivateIn, ReplyIn, HeadIn, rename_head, rename_private, rename_reply, renamed}
+use Rattle.kt_mem.specs.Renaming.{Pairs, renamed}
+use Rattle.kt_exec.specs.Renaming.{AreOneToOne, IsOld, PrivateIn, ReplyIn, HeadIn, rename_head, rename_private, rename_reply}
 use Rattle.kt_exec.proofs.RenamedNames.{bound, spread, spread-keeps, spread-old, spread-same, spread-tells, private-only, head-only, private-in, reply-in, private-tells, head-tells}
 use Rattle.kt_exec.proofs.RenamedOperations.{Keeps}
 use Rattle.kt_exec.proofs.RenamedSteps.{settle-renamed, head-renamed, reply-renamed}

@@ -19,7 +19,8 @@ use Rattle.kt_code.specs.declared.frame.Frame.{Frame}
 use Rattle.kt_code.specs.declared.private.Private.{Private}
 use Rattle.kt_code.specs.declared.private.Head.{Head}
 use Rattle.kt_code.specs.declared.private.Head.TheVariants as head
-use Rattle.kt_exec.specs.Renaming.{rename_name, rename_value, rename_values, rename_frame, rename_frames, rename_kept_local, rename_kept, rename_private, rename_piece, rename_pieces, rename_act, rename_reply, rename_head, Pairs, renamed, IsOld, IsNew, AreOneToOne, NameIn, ValueIn, ValuesIn, FramesIn, KeptIn, PrivateIn, ReplyIn, PieceIn, PiecesIn, ActIn, HeadIn}
+use Rattle.kt_mem.specs.Renaming.{Pairs, rename_name, rename_value, rename_values, renamed}
+use Rattle.kt_exec.specs.Renaming.{rename_frame, rename_frames, rename_kept_local, rename_kept, rename_private, rename_piece, rename_pieces, rename_act, rename_reply, rename_head, IsOld, IsNew, AreOneToOne, NameIn, ValueIn, ValuesIn, FramesIn, KeptIn, PrivateIn, ReplyIn, PieceIn, PiecesIn, ActIn, HeadIn}
 use Rattle.kt_exec.proofs.RenamedOperations.{Keeps}
 
 -- ---- a renaming of all names

@@ -16,7 +16,7 @@ use Rattle.kt_mem.specs.Elements.{element_after, element_before, whole_elements,
 use Rattle.kt_mem.specs.Values.{name_eq, int_eq, defined}
 use Rattle.kt_meaning.specs.Operations.{element_sum}
 use Rattle.kt_meaning.specs.Thread.{defined_if}
-use Rattle.kt_exec.specs.Renaming.{rename_name, rename_value, rename_values}
+use Rattle.kt_mem.specs.Renaming.{rename_name, rename_value, rename_values}
 
 -- different names stay different
 pub record Keeps (f : ℕ → ℕ) : Type 0 where

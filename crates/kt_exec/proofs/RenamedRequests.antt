@@ -23,7 +23,8 @@ use Rattle.kt_meaning.specs.Requests.{act_of, before, pieces, printed, request_v
 use Rattle.kt_meaning.specs.Thread.{Restart, is_updating, is_updating_from, value_for, kept_value, set_if_some}
 use Rattle.kt_code.specs.Machine.{Here, changed_by}
 use Rattle.kt_code.specs.Requests.{untyped}
-use Rattle.kt_exec.specs.Renaming.{rename_value, rename_values, rename_frames, rename_kept, rename_piece, rename_pieces, rename_act, rename_reply}
+use Rattle.kt_mem.specs.Renaming.{rename_value, rename_values}
+use Rattle.kt_exec.specs.Renaming.{rename_frames, rename_kept, rename_piece, rename_pieces, rename_act, rename_reply}
 
 -- ---- acts
 

@@ -29,7 +29,8 @@ use Rattle.kt_code.specs.declared.private.Private.{Private}
 use Rattle.kt_code.specs.declared.private.Head.TheVariants as head
 use Rattle.kt_code.specs.declared.instr.Instr.{Instr}
 use Rattle.kt_code.specs.declared.instr.Instr.TheVariants as instr
-use Rattle.kt_exec.specs.Renaming.{rename_value, rename_values, rename_frame, rename_frames, rename_private, rename_act, rename_reply, rename_head}
+use Rattle.kt_mem.specs.Renaming.{rename_value, rename_values}
+use Rattle.kt_exec.specs.Renaming.{rename_frame, rename_frames, rename_private, rename_act, rename_reply, rename_head}
 use Rattle.kt_exec.proofs.RenamedOperations.{Keeps, rename_result, zero_test-same, moved-renamed, sum-renamed, difference-renamed, product-renamed, quotient-renamed, remainder-renamed, narrowed-renamed, not-renamed, equal-renamed, not_equal-renamed, compared-renamed, before-renamed, element_sum-renamed, elements-renamed, local-renamed}
 use Rattle.kt_exec.proofs.RenamedRequests.{rename_act_result, rename_here, act_of-renamed, changed_by-renamed, told-renamed, request_value-renamed}
 

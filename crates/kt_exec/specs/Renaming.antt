@@ -11,6 +11,7 @@ use Rattle.kt_mem.specs.declared.steps.Piece.TheVariants as piece
 use Rattle.kt_mem.specs.declared.steps.Reply.{Reply}
 use Rattle.kt_mem.specs.declared.steps.Reply.TheVariants.{Done, Got, Trapped}
 use Rattle.kt_mem.specs.declared.thread.KeptLocal.{KeptLocal}
+use Rattle.kt_mem.specs.Renaming.{Pairs, rename_name, rename_value, rename_values, renamed}
 use Rattle.kt_meaning.specs.Steps.{after_reply}
 use Rattle.kt_code.specs.Code.{Code}
 use Rattle.kt_code.specs.Machine.{step}
@@ -21,22 +22,6 @@ use Rattle.kt_code.specs.declared.private.Head.{Head}
 use Rattle.kt_code.specs.declared.private.Head.TheVariants as head
 
 -- ---- everything with its heap names renamed by a function
-
-abbrev pub rename_name : (ℕ → ℕ) → Name → Name
-rename_name f (Glob i) = Glob i
-rename_name f (Lit v i) = Lit v i
-rename_name f (Heap a) = Heap (f a)
-
-abbrev pub rename_value : (ℕ → ℕ) → Value → Value
-rename_value f (Num n) = Num n
-rename_value f Null = Null
-rename_value f (Ptr n k) = Ptr (rename_name f n) k
-rename_value f Free = Free
-rename_value f (Held thread) = Held thread
-rename_value f Undef = Undef
-
-abbrev pub rename_values : (ℕ → ℕ) → List Value → List Value
-rename_values f vs = map (rename_value f) vs
 
 abbrev pub rename_frame : (ℕ → ℕ) → Frame → Frame
 rename_frame f x = record x { locals = rename_values f x.locals }
@@ -102,14 +87,6 @@ rename_head f (Some (head.Act a)) = Some (head.Act (rename_act f a))
 rename_head f (Some (head.Trap t)) = Some (head.Trap t)
 
 -- ---- renaming by pairs
-
-abbrev pub Pairs : Type 0
-Pairs = List (ℕ × ℕ)
-
--- the new name of an old one
-abbrev pub renamed : Pairs → ℕ → ℕ
-renamed [] a = a
-renamed (p ∷ ps) a = if p.0 == a then p.1 else renamed ps a
 
 -- a name is an old one, or a new one
 abbrev pub IsOld : Pairs → ℕ → Type 0

@@ -15,7 +15,8 @@ use Rattle.kt_mem.specs.Values.{ty_eq, defined}
 use Rattle.kt_mem.specs.Memory.{Memory, Object, Cell, put, cell_value, value_in, value_at, and_then, written, with_value, object_with, unless_literal, locked, unlocked, initialised, without, fresh_cell, repeated, fresh_object}
 use Rattle.kt_mem.proofs.Names.{put-cases}
 use Rattle.kt_mem.proofs.Changes.{and_then_ok, written_ok, release_ok}
-use Rattle.kt_heap.specs.ByNumber.{Pairs, WasGiven, HoldsGiven, LoadsGiven, StoresGiven, LocksGiven, UnlocksGiven, InitsGiven, ReleasesGiven, AllocsGiven, GrowsGiven}
+use Rattle.kt_mem.specs.Renaming.{Pairs}
+use Rattle.kt_heap.specs.ByNumber.{WasGiven, HoldsGiven, LoadsGiven, StoresGiven, LocksGiven, UnlocksGiven, InitsGiven, ReleasesGiven, AllocsGiven, GrowsGiven}
 
 -- ---- cells
 

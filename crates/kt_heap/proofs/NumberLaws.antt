@@ -14,7 +14,8 @@ use Rattle.kt_mem.specs.declared.steps.Trap.TheVariants as trap
 use Rattle.kt_mem.specs.Values.{name_eq, defined}
 use Rattle.kt_mem.specs.Memory.{Memory, Object, Cell, no_objects, put, value_at, and_then, written, with_value, object_with, unless_literal, locked, unlocked, initialised, held_by_other, released, without, fresh_object}
 use Rattle.kt_heap.specs.Heap.{Paired, IsNew, IsPairing}
-use Rattle.kt_heap.specs.ByNumber.{Pairs, number_of, address_paired, name_by_number, value_by_number, cell_by_number, object_by_number, object_named, by_number, answer_by, WasGiven, HoldsGiven, StartsByNumber, LoadsByNumber, StoresByNumber, ReleasesByNumber, LocksByNumber, UnlocksByNumber, InitsByNumber, WaitsByNumber, AllocsByNumber, GrowsByNumber, LooksByNumber, CarriesNumber}
+use Rattle.kt_mem.specs.Renaming.{Pairs, rename_name, rename_value, renamed}
+use Rattle.kt_heap.specs.ByNumber.{address_paired, cell_by_number, object_by_number, object_named, by_number, answer_by, WasGiven, HoldsGiven, StartsByNumber, LoadsByNumber, StoresByNumber, ReleasesByNumber, LocksByNumber, UnlocksByNumber, InitsByNumber, WaitsByNumber, AllocsByNumber, GrowsByNumber, LooksByNumber, CarriesNumber}
 use Rattle.kt_heap.proofs.Places.{by_test}
 use Rattle.kt_heap.proofs.Pairs.{number_there, address_there, address_is_paired, address_kept, address_pushed}
 use Rattle.kt_heap.proofs.Renamed.{NameGiven, name_given, object_there, value_at_by, defined_by, object_with_by, fresh_object_by, value_pushed, object_pushed}
@@ -35,23 +36,23 @@ same_test pairs m a b k n kept p q =
 
 module _ (pairs : Pairs) (m : Memory) (kept : IsPairing pairs m) where
   -- under a heap number
-  put_heap : (at : Name → Option Object) (q : Name) (o : Option Object) (n : ℕ) → NameGiven pairs q → seen pairs (put at q o) (Heap n) ≡ put (seen pairs at) (name_by_number pairs q) (option_map (object_by_number pairs) o) (Heap n)
+  put_heap : (at : Name → Option Object) (q : Name) (o : Option Object) (n : ℕ) → NameGiven pairs q → seen pairs (put at q o) (Heap n) ≡ put (seen pairs at) (rename_name (renamed pairs) q) (option_map (object_by_number pairs) o) (Heap n)
   unfolding seen put
   put_heap at (Glob i) o n g = refl
   put_heap at (Lit v i) o n g = refl
   put_heap at (Heap a) o n g = by_address (address_paired pairs n) refl
     where
-      number : number_of pairs a ≡ g.0
+      number : renamed pairs a ≡ g.0
       number = number_there pairs m a g.0 kept g.1
 
-      by_address : (b : Option ℕ) → address_paired pairs n ≡ b → option_map (object_by_number pairs) (option_and_then (λ c. cond (c == a) o (at (Heap c))) b) ≡ cond (n == number_of pairs a) (option_map (object_by_number pairs) o) (option_map (object_by_number pairs) (option_and_then (λ c. at (Heap c)) b))
+      by_address : (b : Option ℕ) → address_paired pairs n ≡ b → option_map (object_by_number pairs) (option_and_then (λ c. cond (c == a) o (at (Heap c))) b) ≡ cond (n == renamed pairs a) (option_map (object_by_number pairs) o) (option_map (object_by_number pairs) (option_and_then (λ c. at (Heap c)) b))
       by_address None e =
-          by_test (λ t. None ≡ cond t (option_map (object_by_number pairs) o) None) n (number_of pairs a) (λ same. let there = address_there pairs m a n kept (subst (λ (k : ℕ). Paired pairs a k) (sym (same ∙ number)) g.1) in let never : ⊥ = cc in absurd never) (λ _. refl)
+          by_test (λ t. None ≡ cond t (option_map (object_by_number pairs) o) None) n (renamed pairs a) (λ same. let there = address_there pairs m a n kept (subst (λ (k : ℕ). Paired pairs a k) (sym (same ∙ number)) g.1) in let never : ⊥ = cc in absurd never) (λ _. refl)
       by_address (Some b) e =
           seen_if pairs (b == a) o (at (Heap b)) ∙ ap (λ (t : Bool). cond t (option_map (object_by_number pairs) o) (option_map (object_by_number pairs) (at (Heap b)))) (same_test pairs m a b g.0 n kept g.1 (address_is_paired pairs n b e) ∙ ap (λ (k : ℕ). n == k) (sym number))
 
   -- under any name
-  put_by : (at : Name → Option Object) (q : Name) (o : Option Object) → NameGiven pairs q → (n : Name) → seen pairs (put at q o) n ≡ put (seen pairs at) (name_by_number pairs q) (option_map (object_by_number pairs) o) n
+  put_by : (at : Name → Option Object) (q : Name) (o : Option Object) → NameGiven pairs q → (n : Name) → seen pairs (put at q o) n ≡ put (seen pairs at) (rename_name (renamed pairs) q) (option_map (object_by_number pairs) o) n
   unfolding seen put
   put_by at q o g (Heap n) = put_heap at q o n g
   put_by at (Glob i) o g (Glob j) = seen_if pairs (j == i) o (at (Glob j))
@@ -62,48 +63,48 @@ module _ (pairs : Pairs) (m : Memory) (kept : IsPairing pairs m) where
   put_by at (Heap a) o g (Lit w j) = refl
 
   -- as a map
-  put_all : (q : Name) (o : Option Object) → NameGiven pairs q → seen pairs (put m.at q o) ≡ put (seen pairs m.at) (name_by_number pairs q) (option_map (object_by_number pairs) o)
+  put_all : (q : Name) (o : Option Object) → NameGiven pairs q → seen pairs (put m.at q o) ≡ put (seen pairs m.at) (rename_name (renamed pairs) q) (option_map (object_by_number pairs) o)
   put_all q o g = fun_ext (put_by m.at q o g)
 
   -- ---- a value that is written
 
-  with_value_by : (p : Value) (t : Ty) (v : Value) → WasGiven pairs p → with_value (by_number pairs m) (value_by_number pairs p) t (value_by_number pairs v) ≡ by_number pairs (with_value m p t v)
+  with_value_by : (p : Value) (t : Ty) (v : Value) → WasGiven pairs p → with_value (by_number pairs m) (rename_value (renamed pairs) p) t (rename_value (renamed pairs) v) ≡ by_number pairs (with_value m p t v)
   unfolding seen
   with_value_by (Ptr q k) t v g =
       let given = name_given pairs q k g in
       let c : Cell = record { ty = t; value = v } in
-      let there : seen pairs m.at (name_by_number pairs q) ≡ option_map (object_by_number pairs) (m.at q) = ap (option_map (object_by_number pairs)) (object_there pairs m m.at q kept given) in
-      let object : option_map (object_with k (cell_by_number pairs c)) (seen pairs m.at (name_by_number pairs q)) ≡ option_map (object_by_number pairs) (option_map (object_with k c) (m.at q)) = ap (option_map (object_with k (cell_by_number pairs c))) there ∙ sym (object_with_by pairs k c (m.at q)) in
-      ap (λ (at : Name → Option Object). record m { at = at }) (ap (put (seen pairs m.at) (name_by_number pairs q)) object ∙ sym (put_all q (option_map (object_with k c) (m.at q)) given))
+      let there : seen pairs m.at (rename_name (renamed pairs) q) ≡ option_map (object_by_number pairs) (m.at q) = ap (option_map (object_by_number pairs)) (object_there pairs m m.at q kept given) in
+      let object : option_map (object_with k (cell_by_number pairs c)) (seen pairs m.at (rename_name (renamed pairs) q)) ≡ option_map (object_by_number pairs) (option_map (object_with k c) (m.at q)) = ap (option_map (object_with k (cell_by_number pairs c))) there ∙ sym (object_with_by pairs k c (m.at q)) in
+      ap (λ (at : Name → Option Object). record m { at = at }) (ap (put (seen pairs m.at) (rename_name (renamed pairs) q)) object ∙ sym (put_all q (option_map (object_with k c) (m.at q)) given))
   with_value_by Null t v g = refl
   with_value_by (Num z) t v g = refl
   with_value_by Free t v g = refl
   with_value_by (Held w) t v g = refl
   with_value_by Undef t v g = refl
 
-  written_by : (p : Value) (t : Ty) (r : Result Value Trap) → WasGiven pairs p → written (by_number pairs m) (value_by_number pairs p) t (answer_by (value_by_number pairs) r) ≡ answer_by (by_number pairs) (written m p t r)
+  written_by : (p : Value) (t : Ty) (r : Result Value Trap) → WasGiven pairs p → written (by_number pairs m) (rename_value (renamed pairs) p) t (answer_by (rename_value (renamed pairs)) r) ≡ answer_by (by_number pairs) (written m p t r)
   written_by p t (Ok v) g = ap Ok (with_value_by p t v g)
   written_by p t (Err e) g = refl
 
   -- what is made of the value at a pointer
-  changes_by : (p : Value) (t : Ty) (f h : Value → Result Value Trap) → ((v : Value) → f (value_by_number pairs v) ≡ answer_by (value_by_number pairs) (h v)) → WasGiven pairs p → written (by_number pairs m) (value_by_number pairs p) t (and_then (value_at (by_number pairs m) (value_by_number pairs p) t) f) ≡ answer_by (by_number pairs) (written m p t (and_then (value_at m p t) h))
+  changes_by : (p : Value) (t : Ty) (f h : Value → Result Value Trap) → ((v : Value) → f (rename_value (renamed pairs) v) ≡ answer_by (rename_value (renamed pairs)) (h v)) → WasGiven pairs p → written (by_number pairs m) (rename_value (renamed pairs) p) t (and_then (value_at (by_number pairs m) (rename_value (renamed pairs) p) t) f) ≡ answer_by (by_number pairs) (written m p t (and_then (value_at m p t) h))
   changes_by p t f h same g =
-      ap (λ (r : Result Value Trap). written (by_number pairs m) (value_by_number pairs p) t (and_then r f)) (value_at_by pairs m p t kept g) ∙ ap (written (by_number pairs m) (value_by_number pairs p) t) (by_answer (value_at m p t)) ∙ written_by p t (and_then (value_at m p t) h) g
+      ap (λ (r : Result Value Trap). written (by_number pairs m) (rename_value (renamed pairs) p) t (and_then r f)) (value_at_by pairs m p t kept g) ∙ ap (written (by_number pairs m) (rename_value (renamed pairs) p) t) (by_answer (value_at m p t)) ∙ written_by p t (and_then (value_at m p t) h) g
     where
-      by_answer : (r : Result Value Trap) → and_then (answer_by (value_by_number pairs) r) f ≡ answer_by (value_by_number pairs) (and_then r h)
+      by_answer : (r : Result Value Trap) → and_then (answer_by (rename_value (renamed pairs)) r) f ≡ answer_by (rename_value (renamed pairs)) (and_then r h)
       by_answer (Ok v) = same v
       by_answer (Err e) = refl
 
   -- ---- release
 
-  without_by : (a : ℕ) (o : Object) → NameGiven pairs (Heap a) → without (by_number pairs m) (number_of pairs a) (object_by_number pairs o) ≡ by_number pairs (without m a o)
+  without_by : (a : ℕ) (o : Object) → NameGiven pairs (Heap a) → without (by_number pairs m) (renamed pairs a) (object_by_number pairs o) ≡ by_number pairs (without m a o)
   unfolding seen
   without_by a o g =
       let cells : length (map (cell_by_number pairs) o.cells) ≡ length o.cells = length-map o.cells (cell_by_number pairs) in
-      let objects : put (seen pairs m.at) (Heap (number_of pairs a)) None ≡ seen pairs (put m.at (Heap a) None) = sym (put_all (Heap a) None g) in
+      let objects : put (seen pairs m.at) (Heap (renamed pairs a)) None ≡ seen pairs (put m.at (Heap a) None) = sym (put_all (Heap a) None g) in
       λ i. record { at = objects i; next = m.next; live = m.live - cells i }
 
-  released_by : (n : Name) (k : ℕ) (o : Option Object) → NameGiven pairs n → released (by_number pairs m) (name_by_number pairs n) k (option_map (object_by_number pairs) o) ≡ answer_by (by_number pairs) (released m n k o)
+  released_by : (n : Name) (k : ℕ) (o : Option Object) → NameGiven pairs n → released (by_number pairs m) (rename_name (renamed pairs) n) k (option_map (object_by_number pairs) o) ≡ answer_by (by_number pairs) (released m n k o)
   released_by n k None g = refl
   released_by (Heap a) zero (Some o) g = ap Ok (without_by a o g)
   released_by (Heap a) (suc k) (Some o) g = refl
@@ -125,12 +126,12 @@ pub loads_by_number : LoadsByNumber
 loads_by_number pairs m p t kept g =
     ap (λ (r : Result Value Trap). and_then r defined) (value_at_by pairs m p t kept g) ∙ by_answer (value_at m p t)
   where
-    by_answer : (r : Result Value Trap) → and_then (answer_by (value_by_number pairs) r) defined ≡ answer_by (value_by_number pairs) (and_then r defined)
+    by_answer : (r : Result Value Trap) → and_then (answer_by (rename_value (renamed pairs)) r) defined ≡ answer_by (rename_value (renamed pairs)) (and_then r defined)
     by_answer (Ok v) = defined_by pairs v
     by_answer (Err e) = refl
 
 -- whether a literal is written is asked of the name alone
-literal_by : (pairs : Pairs) (p v : Value) → unless_literal (value_by_number pairs p) (value_by_number pairs v) ≡ answer_by (value_by_number pairs) (unless_literal p v)
+literal_by : (pairs : Pairs) (p v : Value) → unless_literal (rename_value (renamed pairs) p) (rename_value (renamed pairs) v) ≡ answer_by (rename_value (renamed pairs)) (unless_literal p v)
 literal_by pairs (Ptr (Lit w i) k) v = refl
 literal_by pairs (Ptr (Glob i) k) v = refl
 literal_by pairs (Ptr (Heap a) k) v = refl
@@ -142,14 +143,14 @@ literal_by pairs Undef v = refl
 
 pub stores_by_number : StoresByNumber
 stores_by_number t v pairs m p kept g =
-    changes_by pairs m kept p t (λ _. unless_literal (value_by_number pairs p) (value_by_number pairs v)) (λ _. unless_literal p v) (λ _. literal_by pairs p v) g
+    changes_by pairs m kept p t (λ _. unless_literal (rename_value (renamed pairs) p) (rename_value (renamed pairs) v)) (λ _. unless_literal p v) (λ _. literal_by pairs p v) g
 
 -- what locks, unlocks and inits make of a value names nothing
-locked_by : (pairs : Pairs) (thread : ℕ) (v : Value) → locked thread (value_by_number pairs v) ≡ answer_by (value_by_number pairs) (locked thread v)
+locked_by : (pairs : Pairs) (thread : ℕ) (v : Value) → locked thread (rename_value (renamed pairs) v) ≡ answer_by (rename_value (renamed pairs)) (locked thread v)
 locked_by pairs thread Free = refl
 locked_by pairs thread (Held w) = by_holder (w == thread)
   where
-    by_holder : (b : Bool) → cond b (Err trap.Mutex) (Ok (Held w)) ≡ answer_by (value_by_number pairs) (cond b (Err trap.Mutex) (Ok (Held w)))
+    by_holder : (b : Bool) → cond b (Err trap.Mutex) (Ok (Held w)) ≡ answer_by (rename_value (renamed pairs)) (cond b (Err trap.Mutex) (Ok (Held w)))
     by_holder true = refl
     by_holder false = refl
 locked_by pairs thread (Ptr n k) = refl
@@ -157,11 +158,11 @@ locked_by pairs thread Null = refl
 locked_by pairs thread (Num z) = refl
 locked_by pairs thread Undef = refl
 
-unlocked_by : (pairs : Pairs) (thread : ℕ) (v : Value) → unlocked thread (value_by_number pairs v) ≡ answer_by (value_by_number pairs) (unlocked thread v)
+unlocked_by : (pairs : Pairs) (thread : ℕ) (v : Value) → unlocked thread (rename_value (renamed pairs) v) ≡ answer_by (rename_value (renamed pairs)) (unlocked thread v)
 unlocked_by pairs thread Free = refl
 unlocked_by pairs thread (Held w) = by_holder (w == thread)
   where
-    by_holder : (b : Bool) → cond b (Ok Free) (Err trap.Mutex) ≡ answer_by (value_by_number pairs) (cond b (Ok Free) (Err trap.Mutex))
+    by_holder : (b : Bool) → cond b (Ok Free) (Err trap.Mutex) ≡ answer_by (rename_value (renamed pairs)) (cond b (Ok Free) (Err trap.Mutex))
     by_holder true = refl
     by_holder false = refl
 unlocked_by pairs thread (Ptr n k) = refl
@@ -169,7 +170,7 @@ unlocked_by pairs thread Null = refl
 unlocked_by pairs thread (Num z) = refl
 unlocked_by pairs thread Undef = refl
 
-initialised_by : (pairs : Pairs) (v : Value) → initialised (value_by_number pairs v) ≡ answer_by (value_by_number pairs) (initialised v)
+initialised_by : (pairs : Pairs) (v : Value) → initialised (rename_value (renamed pairs) v) ≡ answer_by (rename_value (renamed pairs)) (initialised v)
 initialised_by pairs (Held w) = refl
 initialised_by pairs Free = refl
 initialised_by pairs (Ptr n k) = refl
@@ -193,7 +194,7 @@ pub waits_by_number : WaitsByNumber
 waits_by_number pairs m thread p kept g =
     ap (held_by_other thread) (value_at_by pairs m p ty.Mutex kept g) ∙ by_answer (value_at m p ty.Mutex)
   where
-    by_value : (v : Value) → held_by_other thread (Ok (value_by_number pairs v)) ≡ held_by_other thread (Ok v)
+    by_value : (v : Value) → held_by_other thread (Ok (rename_value (renamed pairs) v)) ≡ held_by_other thread (Ok v)
     by_value Free = refl
     by_value (Held w) = refl
     by_value (Ptr n k) = refl
@@ -201,14 +202,14 @@ waits_by_number pairs m thread p kept g =
     by_value (Num z) = refl
     by_value Undef = refl
 
-    by_answer : (r : Result Value Trap) → held_by_other thread (answer_by (value_by_number pairs) r) ≡ held_by_other thread r
+    by_answer : (r : Result Value Trap) → held_by_other thread (answer_by (rename_value (renamed pairs)) r) ≡ held_by_other thread r
     by_answer (Ok v) = by_value v
     by_answer (Err e) = refl
 
 pub releases_by_number : ReleasesByNumber
 releases_by_number pairs m (Ptr n k) kept g =
     let given = name_given pairs n k g in
-    ap (λ (o : Option Object). released (by_number pairs m) (name_by_number pairs n) k (option_map (object_by_number pairs) o)) (object_there pairs m m.at n kept given) ∙ released_by pairs m kept n k (m.at n) given
+    ap (λ (o : Option Object). released (by_number pairs m) (rename_name (renamed pairs) n) k (option_map (object_by_number pairs) o)) (object_there pairs m m.at n kept given) ∙ released_by pairs m kept n k (m.at n) given
 releases_by_number pairs m Null kept g = refl
 releases_by_number pairs m (Num z) kept g = refl
 releases_by_number pairs m Free kept g = refl

@@ -5,7 +5,8 @@ use Rattle.std.specs.List.{Contains}
 use Rattle.std.proofs.lemmas.List.Elements.{Contains-push_cases}
 use Rattle.kt_mem.specs.Memory.{Memory}
 use Rattle.kt_heap.specs.Heap.{Paired, IsNew, AreOneToOne, IsPairing}
-use Rattle.kt_heap.specs.ByNumber.{Pairs, number_of, address_paired}
+use Rattle.kt_mem.specs.Renaming.{Pairs, renamed}
+use Rattle.kt_heap.specs.ByNumber.{address_paired}
 use Rattle.kt_heap.proofs.Places.{by_test}
 
 -- ---- elements
@@ -25,13 +26,13 @@ paired_rest p ps a n h = let below = h.1 in (suc h.0, omega arith, h.2)
 
 -- ---- the number of an address
 
-number_paired : (ps : Pairs) (a n : ℕ) → Paired ps a n → Paired ps a (number_of ps a)
+number_paired : (ps : Pairs) (a n : ℕ) → Paired ps a n → Paired ps a (renamed ps a)
 number_paired [] a n h = absurd (none_in_empty a n h)
 number_paired (p ∷ ps) a n h =
-    by_test (λ t. Paired (p ∷ ps) a (cond t p.1 (number_of ps a))) p.0 a (λ e. subst (λ (x : ℕ). Paired (p ∷ ps) x p.1) e (paired_first p ps)) (λ ne. elim (first_or_rest p (a, n) ps h.0 h.1 h.2) [ inl e ↦ absurd (ne (ap (λ (x : ℕ × ℕ). x.0) e)) | inr r ↦ paired_rest p ps a (number_of ps a) (number_paired ps a n r) ])
+    by_test (λ t. Paired (p ∷ ps) a (cond t p.1 (renamed ps a))) p.0 a (λ e. subst (λ (x : ℕ). Paired (p ∷ ps) x p.1) e (paired_first p ps)) (λ ne. elim (first_or_rest p (a, n) ps h.0 h.1 h.2) [ inl e ↦ absurd (ne (ap (λ (x : ℕ × ℕ). x.0) e)) | inr r ↦ paired_rest p ps a (renamed ps a) (number_paired ps a n r) ])
 
-pub number_there : (ps : Pairs) (m : Memory) (a n : ℕ) → IsPairing ps m → Paired ps a n → number_of ps a ≡ n
-number_there ps m a n kept p = kept.numbers a (number_of ps a) n (number_paired ps a n p) p
+pub number_there : (ps : Pairs) (m : Memory) (a n : ℕ) → IsPairing ps m → Paired ps a n → renamed ps a ≡ n
+number_there ps m a n kept p = kept.numbers a (renamed ps a) n (number_paired ps a n p) p
 
 -- ---- the address of a number
 
@@ -60,7 +61,7 @@ address_there ps m a n kept p =
 -- ---- one pair more
 
 -- the number of another address
-pub number_pushed : (ps : Pairs) (a n b : ℕ) → b ≢ a → number_of (ps ++ (a, n) ∷ []) b ≡ number_of ps b
+pub number_pushed : (ps : Pairs) (a n b : ℕ) → b ≢ a → renamed (ps ++ (a, n) ∷ []) b ≡ renamed ps b
 number_pushed [] a n b ne =
     by_test (λ t. cond t n b ≡ b) a b (λ e. absurd (ne (sym e))) (λ _. refl)
 number_pushed (p ∷ ps) a n b ne = ap (cond (p.0 == b) p.1) (number_pushed ps a n b ne)

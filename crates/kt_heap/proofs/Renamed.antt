@@ -14,7 +14,8 @@ use Rattle.kt_mem.specs.declared.steps.Trap.TheVariants as trap
 use Rattle.kt_mem.specs.Values.{ty_eq, defined}
 use Rattle.kt_mem.specs.Memory.{Memory, Object, Cell, cell_value, value_in, value_at, object_with, fresh_cell, repeated, fresh_object}
 use Rattle.kt_heap.specs.Heap.{Paired, IsNew, IsPairing}
-use Rattle.kt_heap.specs.ByNumber.{Pairs, name_by_number, value_by_number, cell_by_number, object_by_number, object_named, by_number, answer_by, WasGiven}
+use Rattle.kt_mem.specs.Renaming.{Pairs, rename_name, rename_value}
+use Rattle.kt_heap.specs.ByNumber.{cell_by_number, object_by_number, object_named, by_number, answer_by, WasGiven}
 use Rattle.kt_heap.proofs.Pairs.{number_there, address_there, number_pushed}
 
 -- a name that was given out
@@ -31,26 +32,26 @@ name_given pairs (Lit v i) k g = tt
 -- ---- reading
 
 -- the object under a name
-pub object_there : (pairs : Pairs) (m : Memory) (at : Name → Option Object) (n : Name) → IsPairing pairs m → NameGiven pairs n → object_named pairs at (name_by_number pairs n) ≡ at n
+pub object_there : (pairs : Pairs) (m : Memory) (at : Name → Option Object) (n : Name) → IsPairing pairs m → NameGiven pairs n → object_named pairs at (rename_name (renamed pairs) n) ≡ at n
 object_there pairs m at (Glob i) kept g = refl
 object_there pairs m at (Lit v i) kept g = refl
 object_there pairs m at (Heap a) kept g =
     rw (number_there pairs m a g.0 kept g.1, address_there pairs m a g.0 kept g.1) refl
 
-cell_value_by : (pairs : Pairs) (c : Option Cell) (t : Ty) → cell_value (option_map (cell_by_number pairs) c) t ≡ answer_by (value_by_number pairs) (cell_value c t)
+cell_value_by : (pairs : Pairs) (c : Option Cell) (t : Ty) → cell_value (option_map (cell_by_number pairs) c) t ≡ answer_by (rename_value (renamed pairs)) (cell_value c t)
 cell_value_by pairs None t = refl
 cell_value_by pairs (Some c) t = by_type (ty_eq c.ty t)
   where
-    by_type : (b : Bool) → cond b (Ok (value_by_number pairs c.value)) (Err trap.Bounds) ≡ answer_by (value_by_number pairs) (cond b (Ok c.value) (Err trap.Bounds))
+    by_type : (b : Bool) → cond b (Ok (rename_value (renamed pairs) c.value)) (Err trap.Bounds) ≡ answer_by (rename_value (renamed pairs)) (cond b (Ok c.value) (Err trap.Bounds))
     by_type true = refl
     by_type false = refl
 
-pub value_in_by : (pairs : Pairs) (o : Option Object) (k : ℕ) (t : Ty) → value_in (option_map (object_by_number pairs) o) k t ≡ answer_by (value_by_number pairs) (value_in o k t)
+pub value_in_by : (pairs : Pairs) (o : Option Object) (k : ℕ) (t : Ty) → value_in (option_map (object_by_number pairs) o) k t ≡ answer_by (rename_value (renamed pairs)) (value_in o k t)
 value_in_by pairs None k t = refl
 value_in_by pairs (Some o) k t =
     ap (λ (c : Option Cell). cell_value c t) (slice_get-map (cell_by_number pairs) o.cells k) ∙ cell_value_by pairs (slice_get o.cells k) t
 
-pub value_at_by : (pairs : Pairs) (m : Memory) (p : Value) (t : Ty) → IsPairing pairs m → WasGiven pairs p → value_at (by_number pairs m) (value_by_number pairs p) t ≡ answer_by (value_by_number pairs) (value_at m p t)
+pub value_at_by : (pairs : Pairs) (m : Memory) (p : Value) (t : Ty) → IsPairing pairs m → WasGiven pairs p → value_at (by_number pairs m) (rename_value (renamed pairs) p) t ≡ answer_by (rename_value (renamed pairs)) (value_at m p t)
 value_at_by pairs m (Ptr n k) t kept g =
     ap (λ (o : Option Object). value_in (option_map (object_by_number pairs) o) k t) (object_there pairs m m.at n kept (name_given pairs n k g)) ∙ value_in_by pairs (m.at n) k t
 value_at_by pairs m Null t kept g = refl
@@ -59,7 +60,7 @@ value_at_by pairs m Free t kept g = refl
 value_at_by pairs m (Held w) t kept g = refl
 value_at_by pairs m Undef t kept g = refl
 
-pub defined_by : (pairs : Pairs) (v : Value) → defined (value_by_number pairs v) ≡ answer_by (value_by_number pairs) (defined v)
+pub defined_by : (pairs : Pairs) (v : Value) → defined (rename_value (renamed pairs) v) ≡ answer_by (rename_value (renamed pairs)) (defined v)
 defined_by pairs (Ptr n k) = refl
 defined_by pairs Null = refl
 defined_by pairs (Num z) = refl
@@ -110,7 +111,7 @@ fresh_object_by pairs number place count types zeros =
 -- ---- one pair more
 
 -- what was given out before has the number that it had
-pub value_pushed : (pairs : Pairs) (a n : ℕ) (v : Value) → IsNew pairs a → WasGiven pairs v → value_by_number (pairs ++ (a, n) ∷ []) v ≡ value_by_number pairs v
+pub value_pushed : (pairs : Pairs) (a n : ℕ) (v : Value) → IsNew pairs a → WasGiven pairs v → rename_value (renamed (pairs ++ (a, n) ∷ [])) v ≡ rename_value (renamed pairs) v
 value_pushed pairs a n (Ptr (Heap b) k) new g =
     ap (λ (c : ℕ). Ptr (Heap c) k) (number_pushed pairs a n b (λ e. new g.0 (subst (λ (x : ℕ). Paired pairs x g.0) e g.1)))
 value_pushed pairs a n (Ptr (Glob i) k) new g = refl

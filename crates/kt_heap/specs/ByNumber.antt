@@ -10,40 +10,19 @@ use Rattle.kt_mem.specs.declared.memory.Value.TheVariants.{Num, Null, Ptr, Free,
 use Rattle.kt_mem.specs.declared.steps.Trap.{Trap}
 use Rattle.kt_mem.specs.Memory.{Memory, Object, Cell, no_objects, load, store, lock, unlock, init_mutex, waits, release, made, fresh_object}
 use Rattle.kt_mem.specs.Laws.{IsNumbered}
+use Rattle.kt_mem.specs.Renaming.{Pairs, rename_name, rename_value, renamed}
 use Rattle.kt_heap.specs.Heap.{Paired, IsNew, IsPairing}
 
 -- ---- numbers for addresses
-
--- pairs of an address and a heap number, as they were given out
-abbrev pub Pairs : Type 0
-Pairs = List (ℕ × ℕ)
-
--- the heap number of an address; one that was not given out stays
-abbrev pub number_of : Pairs → ℕ → ℕ
-number_of [] a = a
-number_of (p ∷ ps) a = if p.0 == a then p.1 else number_of ps a
 
 -- the address of a heap number
 abbrev pub address_paired : Pairs → ℕ → Option ℕ
 address_paired [] n = None
 address_paired (p ∷ ps) n = if p.1 == n then Some p.0 else address_paired ps n
 
--- a name, a value, a cell and an object by heap number
-abbrev pub name_by_number : Pairs → Name → Name
-name_by_number pairs (Heap a) = Heap (number_of pairs a)
-name_by_number pairs (Glob i) = Glob i
-name_by_number pairs (Lit v i) = Lit v i
-
-abbrev pub value_by_number : Pairs → Value → Value
-value_by_number pairs (Ptr n k) = Ptr (name_by_number pairs n) k
-value_by_number pairs (Num z) = Num z
-value_by_number pairs Null = Null
-value_by_number pairs Free = Free
-value_by_number pairs (Held thread) = Held thread
-value_by_number pairs Undef = Undef
-
+-- a cell and an object by heap number
 abbrev pub cell_by_number : Pairs → Cell → Cell
-cell_by_number pairs c = record c { value = value_by_number pairs c.value }
+cell_by_number pairs c = record c { value = rename_value (renamed pairs) c.value }
 
 abbrev pub object_by_number : Pairs → Object → Object
 object_by_number pairs o = record o { cells = map (cell_by_number pairs) o.cells }
@@ -80,7 +59,7 @@ HoldsGiven pairs m =
 abbrev pub ActsByNumber : (Pairs → Memory → Value → Result Memory Trap) → (Memory → Value → Result Memory Trap) → Type 0
 ActsByNumber by act =
     (pairs : Pairs) (m : Memory) (p : Value) → IsPairing pairs m → WasGiven pairs p
-    → by pairs (by_number pairs m) (value_by_number pairs p) ≡ answer_by (by_number pairs) (act m p)
+    → by pairs (by_number pairs m) (rename_value (renamed pairs) p) ≡ answer_by (by_number pairs) (act m p)
 
 abbrev pub StartsByNumber : Type 0
 StartsByNumber =
@@ -89,11 +68,11 @@ StartsByNumber =
 abbrev pub LoadsByNumber : Type 0
 LoadsByNumber =
     (pairs : Pairs) (m : Memory) (p : Value) (t : Ty) → IsPairing pairs m → WasGiven pairs p
-    → load (by_number pairs m) (value_by_number pairs p) t ≡ answer_by (value_by_number pairs) (load m p t)
+    → load (by_number pairs m) (rename_value (renamed pairs) p) t ≡ answer_by (rename_value (renamed pairs)) (load m p t)
 
 abbrev pub StoresByNumber : Type 0
 StoresByNumber =
-    (t : Ty) (v : Value) → ActsByNumber (λ pairs m p. store m p t (value_by_number pairs v)) (λ m p. store m p t v)
+    (t : Ty) (v : Value) → ActsByNumber (λ pairs m p. store m p t (rename_value (renamed pairs) v)) (λ m p. store m p t v)
 
 abbrev pub ReleasesByNumber : Type 0
 ReleasesByNumber = ActsByNumber (λ _ m p. release m p) release
@@ -110,7 +89,7 @@ InitsByNumber = ActsByNumber (λ _ m p. init_mutex m p) init_mutex
 abbrev pub WaitsByNumber : Type 0
 WaitsByNumber =
     (pairs : Pairs) (m : Memory) (thread : ℕ) (p : Value) → IsPairing pairs m → WasGiven pairs p
-    → waits (by_number pairs m) thread (value_by_number pairs p) ≡ waits m thread p
+    → waits (by_number pairs m) thread (rename_value (renamed pairs) p) ≡ waits m thread p
 
 -- an allocation at a new address is one under the next heap number
 abbrev pub AllocsByNumber : Type 0
@@ -122,13 +101,13 @@ AllocsByNumber =
 -- what was given out before a pair more has the number that it had
 abbrev pub GrowsByNumber : Type 0
 GrowsByNumber =
-    (pairs : Pairs) (a n : ℕ) (v : Value) → IsNew pairs a → WasGiven pairs v → value_by_number (pairs ++ (a, n) ∷ []) v ≡ value_by_number pairs v
+    (pairs : Pairs) (a n : ℕ) (v : Value) → IsNew pairs a → WasGiven pairs v → rename_value (renamed (pairs ++ (a, n) ∷ [])) v ≡ rename_value (renamed pairs) v
 
 -- by heap number the object under a name that was given out is the object under that name
 abbrev pub LooksByNumber : Type 0
 LooksByNumber =
     (pairs : Pairs) (m : Memory) (n : Name) → IsPairing pairs m → WasGiven pairs (Ptr n 0)
-    → (by_number pairs m).at (name_by_number pairs n) ≡ option_map (object_by_number pairs) (m.at n)
+    → (by_number pairs m).at (rename_name (renamed pairs) n) ≡ option_map (object_by_number pairs) (m.at n)
 
 -- by heap number each live heap object carries its own number
 abbrev pub CarriesNumber : Type 0

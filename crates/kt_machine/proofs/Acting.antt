@@ -24,8 +24,8 @@ use Rattle.kt_code.specs.Settling.{head_of}
 use Rattle.kt_code.specs.declared.private.Head.{Head}
 use Rattle.kt_code.specs.declared.private.Head.TheVariants as head
 use Rattle.kt_code.specs.declared.private.Private.{Private}
-use Rattle.kt_heap.specs.ByNumber.{Pairs, number_of}
-use Rattle.kt_exec.specs.Renaming.{IsOld, PrivateIn, rename_act, rename_reply, rename_value}
+use Rattle.kt_mem.specs.Renaming.{Pairs, rename_value, renamed}
+use Rattle.kt_exec.specs.Renaming.{IsOld, PrivateIn, rename_act, rename_reply}
 use Rattle.kt_pair.specs.Pair.{Pair}
 use Rattle.kt_lone.specs.Job.{Job, types_at}
 use Rattle.kt_lone.specs.Turn.{answered, acted, effect, elsewhere, ends, migrated, on_outcome}
@@ -131,12 +131,12 @@ pub may-reply : (ps qs : Pairs) (h : Head) (st : Step Private) (types : Table) (
     outcome_at types (head_by ps h) s ≡ Replies (reply_by qs r) o → MayReply st r
 may-reply ps qs (head.Act a) (Quiet x) types s o r k law shared e = absurd k
 may-reply ps qs (head.Act a) (Acts b go) types s o r k law shared e =
-    let by = rename_act (number_of ps) a in
+    let by = rename_act (renamed ps) a in
     may-answer a b go r k.0
-    (own-reply (number_of ps) (number_of qs) a r (subst (IsOutcomeOf by) e (law types 0 by s shared)))
+    (own-reply (renamed ps) (renamed qs) a r (subst (IsOutcomeOf by) e (law types 0 by s shared)))
 may-reply ps qs (head.Act a) (Traps t) types s o r k law shared e = absurd k
 may-reply ps qs (head.Act a) (Ends b) types s o r k law shared e =
-    no-reply types (rename_act (number_of ps) a) s o (reply_by qs r) (own-takes (number_of ps) a ∙ k.1) e
+    no-reply types (rename_act (renamed ps) a) s o (reply_by qs r) (own-takes (renamed ps) a ∙ k.1) e
 may-reply ps qs (head.Trap t) (Quiet x) types s o r k law shared e = absurd k
 may-reply ps qs (head.Trap t) (Acts b go) types s o r k law shared e = absurd k
 may-reply ps qs (head.Trap t) (Traps u) types s o r k law shared e = trap-may qs (Traps u) t r (same-reply (Trapped t) (reply_by qs r) s o e)

@@ -20,14 +20,15 @@ use Rattle.kt_mem.specs.Values.{ty_eq}
 use Rattle.kt_meaning.specs.Effects.{Shared, Outcome, Replies, Waits, leaves, reads, writes, and_rest, text_with, text_of, text_in, text_at, piece_text, pieces_text}
 use Rattle.kt_heap.specs.Heap as heap
 use Rattle.kt_heap.specs.Heap.{IsPairing}
-use Rattle.kt_heap.specs.ByNumber.{Pairs, number_of, value_by_number, cell_by_number, object_by_number, by_number, answer_by, WasGiven, HoldsGiven, ActsByNumber}
+use Rattle.kt_mem.specs.Renaming.{Pairs, rename_name, rename_value, renamed}
+use Rattle.kt_heap.specs.ByNumber.{cell_by_number, object_by_number, by_number, answer_by, WasGiven, HoldsGiven, ActsByNumber}
 use Rattle.kt_heap.proofs.NumberLaws.{loads_by_number, stores_by_number, waits_by_number, looks_by_number}
 use Rattle.kt_heap.proofs.GivenLaws.{loads_given, stores_given}
-use Rattle.kt_exec.specs.Renaming.{IsOld, NameIn, ValueIn, PieceIn, PiecesIn, ReplyIn, rename_name, rename_value, rename_piece, rename_pieces}
+use Rattle.kt_exec.specs.Renaming.{IsOld, NameIn, ValueIn, PieceIn, PiecesIn, ReplyIn, rename_piece, rename_pieces}
 use Rattle.kt_lone.specs.Update.{or_same, placed_one, placed_from}
 use Rattle.kt_machine.specs.ByNumber.{reply_by}
 use Rattle.kt_machine.specs.Outside.{Outside, IsNumber, AreNumbers, pairs_in, shown, left_by, done, given}
-use Rattle.kt_machine.proofs.Names.{old-given, given-old, value-among, value-by, old-paired}
+use Rattle.kt_machine.proofs.Names.{old-given, given-old, value-among, old-paired}
 
 -- ---- replies without names
 
@@ -66,16 +67,15 @@ pub acts-leave : {A : Type 0} (by : Pairs → Memory → Value → Result Memory
     (old o : Outside) → old ≡ o → (h : heap.State) (p : Value) (answer : Result A Trap) (r : Reply) →
     IsPairing (heap.given old.heap) (heap.memory old.heap) → ValueIn (IsOld (pairs_in o)) p → act (heap.memory old.heap) p ≡ left_by answer (heap.memory h) →
     OnErr answer (heap.memory h ≡ heap.memory old.heap) → heap.given h ≡ heap.given old.heap → r ≡ done answer →
-    leaves (shown o) (by (pairs_in o) (shown o).memory (rename_value (number_of (pairs_in o)) p))
+    leaves (shown o) (by (pairs_in o) (shown o).memory (rename_value (renamed (pairs_in o)) p))
     ≡ Replies (reply_by (heap.given h) r) (shown (record old { heap = h }))
 acts-leave by act law old o same h p answer r pairing names left kept pairs is =
     let ps : Pairs = heap.given old.heap in
     let m : Memory = heap.memory old.heap in
     let new : Memory = heap.memory h in
-    subst (λ (x : Outside). leaves (shown x) (by (pairs_in x) (shown x).memory (rename_value (number_of (pairs_in x)) p))
+    subst (λ (x : Outside). leaves (shown x) (by (pairs_in x) (shown x).memory (rename_value (renamed (pairs_in x)) p))
     ≡ Replies (reply_by (heap.given h) r) (shown (record old { heap = h }))) same
-    (ap (λ (v : Value). leaves (shown old) (by ps (shown old).memory v)) (value-by ps p)
-    ∙ left-by (shown old) ps m new (by ps (shown old).memory (value_by_number ps p)) (act m p) answer
+    (left-by (shown old) ps m new (by ps (shown old).memory (rename_value (renamed ps) p)) (act m p) answer
     (law ps m p pairing (old-given ps p (subst (λ (x : Outside). ValueIn (IsOld (pairs_in x)) p) (sym same) names))) left kept
     ∙ ap (λ (qs : Pairs). Replies (reply_by qs (done answer)) (record (shown old) { memory = by_number qs new })) (sym pairs)
     ∙ ap (λ (r : Reply). Replies (reply_by (heap.given h) r) (record (shown old) { memory = by_number (heap.given h) new })) (sym is))
@@ -90,20 +90,19 @@ holds-after ps qs m new here (Err t) keeps holds left kept pairs =
 
 -- ---- loads
 
-read-by : (s : Shared) (ps : Pairs) (there here : Result Value Trap) → there ≡ answer_by (value_by_number ps) here →
+read-by : (s : Shared) (ps : Pairs) (there here : Result Value Trap) → there ≡ answer_by (rename_value (renamed ps)) here →
     reads s there ≡ Replies (reply_by ps (given here)) s
-read-by s ps there (Ok v) by = ap (reads s) by ∙ ap (λ (v : Value). Replies (Got v) s) (sym (value-by ps v))
+read-by s ps there (Ok v) by = ap (reads s) by
 read-by s ps there (Err t) by = ap (reads s) by
 
 pub load-reads : (old o : Outside) → old ≡ o → (p : Value) (t : Ty) (answer : Result Value Trap) (r : Reply) →
     IsPairing (heap.given old.heap) (heap.memory old.heap) → ValueIn (IsOld (pairs_in o)) p → answer ≡ load (heap.memory old.heap) p t → r ≡ given answer →
-    reads (shown o) (load (shown o).memory (rename_value (number_of (pairs_in o)) p) t) ≡ Replies (reply_by (pairs_in o) r) (shown o)
+    reads (shown o) (load (shown o).memory (rename_value (renamed (pairs_in o)) p) t) ≡ Replies (reply_by (pairs_in o) r) (shown o)
 load-reads old o same p t answer r pairing names loaded is =
     let ps : Pairs = heap.given old.heap in
     let m : Memory = heap.memory old.heap in
-    subst (λ (x : Outside). reads (shown x) (load (shown x).memory (rename_value (number_of (pairs_in x)) p) t) ≡ Replies (reply_by (pairs_in x) r) (shown x)) same
-    (ap (λ (v : Value). reads (shown old) (load (shown old).memory v t)) (value-by ps p)
-    ∙ read-by (shown old) ps (load (shown old).memory (value_by_number ps p) t) (load m p t)
+    subst (λ (x : Outside). reads (shown x) (load (shown x).memory (rename_value (renamed (pairs_in x)) p) t) ≡ Replies (reply_by (pairs_in x) r) (shown x)) same
+    (read-by (shown old) ps (load (shown old).memory (rename_value (renamed ps) p) t) (load m p t)
     (loads_by_number ps m p t pairing (old-given ps p (subst (λ (x : Outside). ValueIn (IsOld (pairs_in x)) p) (sym same) names)))
     ∙ ap (λ (a : Result Value Trap). Replies (reply_by ps (given a)) (shown old)) (sym loaded)
     ∙ ap (λ (r : Reply). Replies (reply_by ps r) (shown old)) (sym is))
@@ -119,28 +118,27 @@ load-names ps m p t answer r holds loaded is = subst (λ (r : Reply). ReplyIn (I
 -- ---- locks that wait
 
 pub waits-by : (o : Outside) (thread : ℕ) (p : Value) → IsPairing (heap.given o.heap) (heap.memory o.heap) → ValueIn (IsOld (pairs_in o)) p →
-    waits (shown o).memory thread (rename_value (number_of (pairs_in o)) p) ≡ waits (heap.memory o.heap) thread p
+    waits (shown o).memory thread (rename_value (renamed (pairs_in o)) p) ≡ waits (heap.memory o.heap) thread p
 waits-by o thread p pairing names =
-    ap (waits (shown o).memory thread) (value-by (pairs_in o) p)
-    ∙ waits_by_number (pairs_in o) (heap.memory o.heap) thread p pairing (old-given (pairs_in o) p names)
+    waits_by_number (pairs_in o) (heap.memory o.heap) thread p pairing (old-given (pairs_in o) p names)
 
 module _ (old o : Outside) (same : old ≡ o) (thread : ℕ) (p : Value) (b : Bool) (pairing : IsPairing (heap.given old.heap) (heap.memory old.heap))
     (names : ValueIn (IsOld (pairs_in o)) p) (is : b ≡ waits (heap.memory old.heap) thread p) (rest : Outcome) where
-  waits-is : waits (shown o).memory thread (rename_value (number_of (pairs_in o)) p) ≡ b
+  waits-is : waits (shown o).memory thread (rename_value (renamed (pairs_in o)) p) ≡ b
   waits-is =
       waits-by o thread p (subst (λ (x : Outside). IsPairing (heap.given x.heap) (heap.memory x.heap)) same pairing) names
       ∙ sym (is ∙ ap (λ (x : Outside). waits (heap.memory x.heap) thread p) same)
 
-  pub lock-waits : b ≡ true → (if waits (shown o).memory thread (rename_value (number_of (pairs_in o)) p) then Waits else rest) ≡ Waits
+  pub lock-waits : b ≡ true → (if waits (shown o).memory thread (rename_value (renamed (pairs_in o)) p) then Waits else rest) ≡ Waits
   lock-waits e = ap (λ (b : Bool). if b then Waits else rest) (waits-is ∙ e)
 
-  pub lock-goes : b ≡ false → (if waits (shown o).memory thread (rename_value (number_of (pairs_in o)) p) then Waits else rest) ≡ rest
+  pub lock-goes : b ≡ false → (if waits (shown o).memory thread (rename_value (renamed (pairs_in o)) p) then Waits else rest) ≡ rest
   lock-goes e = ap (λ (b : Bool). if b then Waits else rest) (waits-is ∙ e)
 
 -- ---- texts
 
 module _ (ps : Pairs) (m : Memory) (pairing : IsPairing ps m) where
-  text_with-by : (v : Value) (rest : Result (List ℕ) Trap) → text_with (value_by_number ps v) rest ≡ text_with v rest
+  text_with-by : (v : Value) (rest : Result (List ℕ) Trap) → text_with (rename_value (renamed ps) v) rest ≡ text_with v rest
   text_with-by (Num z) rest = refl
   text_with-by Null rest = refl
   text_with-by (Ptr n k) rest = refl
@@ -158,12 +156,12 @@ module _ (ps : Pairs) (m : Memory) (pairing : IsPairing ps m) where
   text_in-by None k = refl
   text_in-by (Some o) k = ap text_of (drop-map (cell_by_number ps) k o.cells) ∙ text_of-by (drop k o.cells)
 
-  looks-by : (n : Name) → NameIn (IsOld ps) n → (by_number ps m).at (rename_name (number_of ps) n) ≡ option_map (object_by_number ps) (m.at n)
+  looks-by : (n : Name) → NameIn (IsOld ps) n → (by_number ps m).at (rename_name (renamed ps) n) ≡ option_map (object_by_number ps) (m.at n)
   looks-by (Glob i) h = looks_by_number ps m (Glob i) pairing tt
   looks-by (Lit v i) h = looks_by_number ps m (Lit v i) pairing tt
   looks-by (Heap a) h = looks_by_number ps m (Heap a) pairing (old-paired ps a h)
 
-  text_at-by : (p : Value) → ValueIn (IsOld ps) p → text_at (by_number ps m) (rename_value (number_of ps) p) ≡ text_at m p
+  text_at-by : (p : Value) → ValueIn (IsOld ps) p → text_at (by_number ps m) (rename_value (renamed ps) p) ≡ text_at m p
   text_at-by Null h = refl
   text_at-by (Ptr n k) h = ap (λ (o : Option Object). text_in o k) (looks-by n h) ∙ text_in-by (m.at n) k
   text_at-by (Num z) h = refl
@@ -171,16 +169,16 @@ module _ (ps : Pairs) (m : Memory) (pairing : IsPairing ps m) where
   text_at-by (Held t) h = refl
   text_at-by Undef h = refl
 
-  piece-by : (x : Piece) → PieceIn (IsOld ps) x → piece_text (by_number ps m) (rename_piece (number_of ps) x) ≡ piece_text m x
+  piece-by : (x : Piece) → PieceIn (IsOld ps) x → piece_text (by_number ps m) (rename_piece (renamed ps) x) ≡ piece_text m x
   piece-by (piece.Bytes bytes) h = refl
   piece-by (piece.Number n) h = refl
   piece-by (piece.Byte b) h = refl
   piece-by (piece.TextAt p) h = text_at-by p h
 
-  pub pieces-by : (xs : List Piece) → PiecesIn (IsOld ps) xs → pieces_text (by_number ps m) (rename_pieces (number_of ps) xs) ≡ pieces_text m xs
+  pub pieces-by : (xs : List Piece) → PiecesIn (IsOld ps) xs → pieces_text (by_number ps m) (rename_pieces (renamed ps) xs) ≡ pieces_text m xs
   pieces-by [] h = refl
   pieces-by (x ∷ xs) h =
-      ap (λ (r : Result (List ℕ) Trap). and_rest r (pieces_text (by_number ps m) (rename_pieces (number_of ps) xs))) (piece-by x h.0)
+      ap (λ (r : Result (List ℕ) Trap). and_rest r (pieces_text (by_number ps m) (rename_pieces (renamed ps) xs))) (piece-by x h.0)
       ∙ ap (and_rest (piece_text m x)) (pieces-by xs h.1)
 
 module _ {E : Type 0} where
@@ -196,11 +194,11 @@ module _ {E : Type 0} where
       PiecesIn (IsOld (pairs_in old)) xs → (answer : Result Reply E) →
       IfOk answer (λ r. (s : Shared) → writes (record s { output = old.output }) (pieces_text (heap.memory old.heap) xs) ≡ Replies r (record s { output = output })) →
       IfOk answer (λ r. ReplyIn (λ a. ⊥) r) →
-      IfOk answer (λ r. writes (shown o) (pieces_text (shown o).memory (rename_pieces (number_of (pairs_in o)) xs))
+      IfOk answer (λ r. writes (shown o) (pieces_text (shown o).memory (rename_pieces (renamed (pairs_in o)) xs))
       ≡ Replies (reply_by (pairs_in old) r) (shown (record old { output = output })))
   pieces-written old o same output xs pairing names (Err e) h plain = tt
   pieces-written old o same output xs pairing names (Ok r) h plain =
-      subst (λ (x : Outside). writes (shown x) (pieces_text (shown x).memory (rename_pieces (number_of (pairs_in x)) xs))
+      subst (λ (x : Outside). writes (shown x) (pieces_text (shown x).memory (rename_pieces (renamed (pairs_in x)) xs))
       ≡ Replies (reply_by (pairs_in old) r) (shown (record old { output = output }))) same
       (ap (writes (shown old)) (pieces-by (pairs_in old) (heap.memory old.heap) pairing xs names) ∙ h (shown old)
       ∙ ap (λ (r : Reply). Replies r (shown (record old { output = output }))) (sym (plain-reply (pairs_in old) r plain)))

@@ -11,7 +11,7 @@ use Rattle.kt_lone.specs.World.{Engine, Live, Parked, Ended, Shared, Standing, T
 use Rattle.kt_code.specs.Settling as settling
 use Rattle.kt_code.specs.declared.private.Head.{Head}
 use Rattle.kt_code.specs.declared.private.Head.TheVariants as head
-use Rattle.kt_heap.specs.ByNumber.{Pairs}
+use Rattle.kt_mem.specs.Renaming.{Pairs}
 use Rattle.kt_machine.specs.declared.machine.Machine.{Machine}
 use Rattle.kt_machine.specs.declared.machine.Standing as declared
 use Rattle.kt_machine.specs.declared.machine.Standing.TheVariants as standing

@@ -11,8 +11,8 @@ use Rattle.kt_code.specs.Code.{Code}
 use Rattle.kt_code.specs.Settling.{settle}
 use Rattle.kt_code.specs.declared.frame.Frame.{Frame}
 use Rattle.kt_code.specs.declared.private.Private.{Private}
-use Rattle.kt_heap.specs.ByNumber.{number_of}
-use Rattle.kt_exec.specs.Renaming.{IsOld, PrivateIn, ValuesIn, rename_value, rename_values, rename_frames, rename_kept}
+use Rattle.kt_mem.specs.Renaming.{rename_value, rename_values, renamed}
+use Rattle.kt_exec.specs.Renaming.{IsOld, PrivateIn, ValuesIn, rename_frames, rename_kept}
 use Rattle.kt_exec.proofs.Renamed.{settles-among}
 use Rattle.kt_pair.specs.Pair.{Pair}
 use Rattle.kt_lone.specs.Turn.{main_of}
@@ -21,7 +21,7 @@ use Rattle.kt_machine.specs.Engine.{code_entry, entry_at, entry_of}
 
 -- ---- nothing was given out
 
-value-same : (v : Value) → rename_value (number_of []) v ≡ v
+value-same : (v : Value) → rename_value (renamed []) v ≡ v
 value-same (Num z) = refl
 value-same Null = refl
 value-same (Ptr (Glob i) k) = refl
@@ -31,20 +31,20 @@ value-same Free = refl
 value-same (Held t) = refl
 value-same Undef = refl
 
-values-same : (vs : List Value) → rename_values (number_of []) vs ≡ vs
+values-same : (vs : List Value) → rename_values (renamed []) vs ≡ vs
 values-same [] = refl
-values-same (v ∷ vs) = ap (λ (w : Value). w ∷ rename_values (number_of []) vs) (value-same v) ∙ ap (λ (l : List Value). v ∷ l) (values-same vs)
+values-same (v ∷ vs) = ap (λ (w : Value). w ∷ rename_values (renamed []) vs) (value-same v) ∙ ap (λ (l : List Value). v ∷ l) (values-same vs)
 
-frames-same : (xs : List Frame) → rename_frames (number_of []) xs ≡ xs
+frames-same : (xs : List Frame) → rename_frames (renamed []) xs ≡ xs
 frames-same [] = refl
 frames-same (x ∷ xs) =
-    ap (λ (vs : List Value). record x { locals = vs } ∷ rename_frames (number_of []) xs) (values-same x.locals)
+    ap (λ (vs : List Value). record x { locals = vs } ∷ rename_frames (renamed []) xs) (values-same x.locals)
     ∙ ap (λ (l : List Frame). x ∷ l) (frames-same xs)
 
-kept-same : (ks : List KeptLocal) → rename_kept (number_of []) ks ≡ ks
+kept-same : (ks : List KeptLocal) → rename_kept (renamed []) ks ≡ ks
 kept-same [] = refl
 kept-same (k ∷ ks) =
-    ap (λ (v : Value). record k { value = v } ∷ rename_kept (number_of []) ks) (value-same k.value)
+    ap (λ (v : Value). record k { value = v } ∷ rename_kept (renamed []) ks) (value-same k.value)
     ∙ ap (λ (l : List KeptLocal). k ∷ l) (kept-same ks)
 
 pub private-same : (x : Private) → private_by [] x ≡ x

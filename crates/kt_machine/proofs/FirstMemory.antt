@@ -14,7 +14,8 @@ use Rattle.kt_mem.specs.declared.memory.Name.TheVariants.{Glob, Lit, Heap}
 use Rattle.kt_mem.specs.declared.memory.Value.{Value}
 use Rattle.kt_mem.specs.declared.memory.Value.TheVariants.{Num, Null, Ptr, Free, Held, Undef}
 use Rattle.kt_mem.specs.Memory.{Memory, Object, Cell, no_objects, put, repeated, zero_value}
-use Rattle.kt_heap.specs.ByNumber.{Pairs, value_by_number, cell_by_number, object_by_number, object_named, by_number, WasGiven, HoldsGiven}
+use Rattle.kt_mem.specs.Renaming.{Pairs, rename_value}
+use Rattle.kt_heap.specs.ByNumber.{cell_by_number, object_by_number, object_named, by_number, WasGiven, HoldsGiven}
 use Rattle.kt_heap.specs.Heap.{with_object}
 use Rattle.kt_tree.specs.declared.global.GlobalDecl.{GlobalDecl}
 use Rattle.kt_tree.specs.declared.global.Init.{Init}
@@ -218,7 +219,7 @@ module _ (ps : Pairs) where
   first-holds v p next (Heap a) o k c at there = absurd (none-some o at)
 
 -- where nothing was given out, everything is the same by heap number
-value-same : (v : Value) → value_by_number [] v ≡ v
+value-same : (v : Value) → rename_value (renamed []) v ≡ v
 value-same (Num z) = refl
 value-same Null = refl
 value-same (Ptr (Glob i) k) = refl

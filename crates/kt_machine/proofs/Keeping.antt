@@ -16,7 +16,8 @@ use Rattle.kt_meaning.specs.Laws.{IsShared}
 use Rattle.kt_meaning.specs.Values.{is_of}
 use Rattle.kt_heap.specs.Heap as heap
 use Rattle.kt_heap.specs.Heap.{IsPairing}
-use Rattle.kt_heap.specs.ByNumber.{Pairs, value_by_number, by_number, answer_by}
+use Rattle.kt_mem.specs.Renaming.{Pairs, rename_value}
+use Rattle.kt_heap.specs.ByNumber.{by_number, answer_by}
 use Rattle.kt_heap.proofs.NumberLaws.{loads_by_number}
 use Rattle.kt_lone.specs.Typed.{IsIntIfSome}
 use Rattle.kt_lone.specs.TypedMemories.{kept_values-int}
@@ -24,7 +25,7 @@ use Rattle.kt_lone.specs.Update.{kept_value, kept_values, old_global, value_if, 
 use Rattle.kt_machine.specs.Outside.{Outside, AreNumbers, IsNumber, pairs_in, shown}
 
 module _ (ps : Pairs) (m : Memory) (pairing : IsPairing ps m) where
-  int-same : (v : Value) → IsTrue (is_of ty.Int (value_by_number ps v)) → (v ≡ value_by_number ps v) × IsNumber (Some v)
+  int-same : (v : Value) → IsTrue (is_of ty.Int (rename_value (renamed ps) v)) → (v ≡ rename_value (renamed ps) v) × IsNumber (Some v)
   int-same (Num z) h = (refl, tt)
   int-same Null h = absurd (false≢true h)
   int-same (Ptr n k) h = absurd (false≢true h)
@@ -32,8 +33,8 @@ module _ (ps : Pairs) (m : Memory) (pairing : IsPairing ps m) where
   int-same (Held t) h = absurd (false≢true h)
   int-same Undef h = absurd (false≢true h)
 
-  answer-same : (r : Result Value Trap) → IsIntIfSome (value_if (answer_by (value_by_number ps) r)) →
-      (value_if r ≡ value_if (answer_by (value_by_number ps) r)) × IsNumber (value_if r)
+  answer-same : (r : Result Value Trap) → IsIntIfSome (value_if (answer_by (rename_value (renamed ps)) r)) →
+      (value_if r ≡ value_if (answer_by (rename_value (renamed ps)) r)) × IsNumber (value_if r)
   answer-same (Ok v) h = let k = int-same v h in (ap Some k.0, k.1)
   answer-same (Err t) h = (refl, tt)
 

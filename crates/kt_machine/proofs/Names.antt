@@ -12,9 +12,10 @@ use Rattle.kt_code.specs.declared.frame.Frame.{Frame}
 use Rattle.kt_code.specs.declared.private.Private.{Private}
 use Rattle.kt_heap.specs.Heap as heap
 use Rattle.kt_heap.specs.Heap.{Paired}
-use Rattle.kt_heap.specs.ByNumber.{Pairs, number_of, value_by_number, WasGiven}
+use Rattle.kt_mem.specs.Renaming.{Pairs, rename_value, renamed}
+use Rattle.kt_heap.specs.ByNumber.{WasGiven}
 use Rattle.kt_heap.proofs.Pairs.{paired_first, paired_rest, number_pushed}
-use Rattle.kt_exec.specs.Renaming.{AreOneToOne, IsNew, IsOld, renamed, rename_value, ValueIn, ValuesIn, FramesIn, KeptIn, PrivateIn, NameIn}
+use Rattle.kt_exec.specs.Renaming.{AreOneToOne, IsNew, IsOld, ValueIn, ValuesIn, FramesIn, KeptIn, PrivateIn, NameIn}
 use Rattle.kt_exec.proofs.RenamedNames.{private-in}
 use Rattle.kt_machine.specs.ByNumber.{Grows, private_by}
 
@@ -66,25 +67,6 @@ given-old ps Free h = tt
 given-old ps (Held t) h = tt
 given-old ps Undef h = tt
 
-pub value-by : (ps : Pairs) (v : Value) → rename_value (number_of ps) v ≡ value_by_number ps v
-value-by ps (Ptr (Heap a) k) = refl
-value-by ps (Ptr (Glob i) k) = refl
-value-by ps (Ptr (Lit v i) k) = refl
-value-by ps (Num z) = refl
-value-by ps Null = refl
-value-by ps Free = refl
-value-by ps (Held t) = refl
-value-by ps Undef = refl
-
--- ---- the two renamings are one
-
-renaming-at : (ps : Pairs) (a : ℕ) → renamed ps a ≡ number_of ps a
-renaming-at [] a = refl
-renaming-at (p ∷ ps) a = ap (λ (n : ℕ). if p.0 == a then p.1 else n) (renaming-at ps a)
-
-pub renaming : (ps : Pairs) → renamed ps ≡ number_of ps
-renaming ps = fun_ext (renaming-at ps)
-
 -- ---- where more was given out
 
 pub same-grows : (old new : Pairs) → new ≡ old → Grows old new
@@ -107,10 +89,10 @@ last-cases : (p : ℕ × ℕ) (ps : Pairs) (a n x : ℕ) (b : Bool) → (p.0 == 
 last-cases p ps a n x true e fresh rest = absurd (fresh p.1 (subst (λ (y : ℕ). Paired (p ∷ ps) y p.1) (eqb-true p.0 a e) (paired_first p ps)))
 last-cases p ps a n x false e fresh rest = rest
 
-pub number-last : (ps : Pairs) (a n : ℕ) → heap.IsNew ps a → number_of (ps ++ (a, n) ∷ []) a ≡ n
+pub number-last : (ps : Pairs) (a n : ℕ) → heap.IsNew ps a → renamed (ps ++ (a, n) ∷ []) a ≡ n
 number-last [] a n fresh = ap (λ (b : Bool). if b then n else a) (eq-eqb a a refl)
 number-last (p ∷ ps) a n fresh =
-    last-cases p ps a n (number_of (ps ++ (a, n) ∷ []) a) (p.0 == a) refl fresh
+    last-cases p ps a n (renamed (ps ++ (a, n) ∷ []) a) (p.0 == a) refl fresh
     (number-last ps a n (λ k there. fresh k (paired_rest p ps a k there)))
 
 -- and was given out too
@@ -148,4 +130,4 @@ module _ {P Q : ℕ → Type 0} (f : (a : ℕ) → P a → Q a) where
   private-among x h = (frames-among x.frames h.0, values-among x.operands h.1, kept-among x.locals h.2)
 
 pub private-grows : (old new : Pairs) → Grows old new → (x : Private) → PrivateIn (IsOld old) x → private_by new x ≡ private_by old x
-private-grows old new grows x h = private-in (IsOld old) (number_of new) (number_of old) grows.number x h
+private-grows old new grows x h = private-in (IsOld old) (renamed new) (renamed old) grows.number x h

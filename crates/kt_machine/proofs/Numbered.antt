@@ -11,16 +11,16 @@ use Rattle.kt_code.specs.declared.private.Head.TheVariants as head
 use Rattle.kt_code.specs.declared.private.Private.{Private}
 use Rattle.kt_code.proofs.CodeSettling.{settle-rests}
 use Rattle.kt_heap.specs.Heap as heap
-use Rattle.kt_heap.specs.ByNumber.{Pairs, number_of}
+use Rattle.kt_mem.specs.Renaming.{Pairs, renamed}
 use Rattle.kt_exec.specs.Renaming.{HeadIn, IsOld, PrivateIn, ReplyIn, rename_head, rename_private, rename_reply}
 use Rattle.kt_exec.proofs.Renamed.{renamed-settles, renamed-head, renamed-reply, settles-among, stands-among, replies-among}
 use Rattle.kt_exec.proofs.Settled.{head_of-IsHead}
 use Rattle.kt_pair.specs.Pair.{Pair}
 use Rattle.kt_machine.specs.ByNumber.{head_by, private_by, reply_by}
 use Rattle.kt_machine.specs.Engine.{code_step}
-use Rattle.kt_machine.proofs.Names.{one-to-one, renaming}
+use Rattle.kt_machine.proofs.Names.{one-to-one}
 
-head-by : (ps : Pairs) (h : Head) → rename_head (number_of ps) (Some h) ≡ Some (head_by ps h)
+head-by : (ps : Pairs) (h : Head) → rename_head (renamed ps) (Some h) ≡ Some (head_by ps h)
 head-by ps (head.Act a) = refl
 head-by ps (head.Trap t) = refl
 
@@ -28,8 +28,7 @@ module _ (ps : Pairs) (once : heap.AreOneToOne ps) where
   module _ (c : Pair) (x : Private) (names : PrivateIn (IsOld ps) x) where
     pub settles-by : settle c.code (private_by ps x) ≡ private_by ps (settle c.code x)
     settles-by =
-        subst (λ (f : ℕ → ℕ). settle c.code (rename_private f x) ≡ rename_private f (settle c.code x)) (renaming ps)
-        (renamed-settles ps (one-to-one ps once) c.code x names)
+        renamed-settles ps (one-to-one ps once) c.code x names
 
     pub names-settled : PrivateIn (IsOld ps) (settle c.code x)
     names-settled = settles-among ps (one-to-one ps once) c.code x names
@@ -40,10 +39,9 @@ module _ (ps : Pairs) (once : heap.AreOneToOne ps) where
 
       stands-in : head_of (step c.code (private_by ps x)) ≡ Some (head_by ps h)
       stands-in =
-          subst (λ (y : Private). head_of (step c.code (private_by ps y)) ≡ rename_head (number_of ps) (head_of (step c.code y))) rests
-          (subst (λ (f : ℕ → ℕ). head_of (step c.code (rename_private f (settle c.code x))) ≡ rename_head f (head_of (step c.code (settle c.code x))))
-          (renaming ps) (renamed-head ps (one-to-one ps once) c.code x names))
-          ∙ ap (rename_head (number_of ps)) stands ∙ head-by ps h
+          subst (λ (y : Private). head_of (step c.code (private_by ps y)) ≡ rename_head (renamed ps) (head_of (step c.code y))) rests
+          (renamed-head ps (one-to-one ps once) c.code x names)
+          ∙ ap (rename_head (renamed ps)) stands ∙ head-by ps h
 
       names-in : HeadIn (IsOld ps) (Some h)
       names-in =
@@ -63,17 +61,14 @@ module _ (ps : Pairs) (once : heap.AreOneToOne ps) where
         replied-by =
             subst (λ (y : Private). after_reply (private_by ps y) (step c.code (private_by ps y)) (reply_by ps r)
             ≡ private_by ps (after_reply y (step c.code y) r)) rests
-            (subst (λ (f : ℕ → ℕ). after_reply (rename_private f (settle c.code x)) (step c.code (rename_private f (settle c.code x))) (rename_reply f r)
-            ≡ rename_private f (after_reply (settle c.code x) (step c.code (settle c.code x)) r)) (renaming ps)
-            (renamed-reply ps (one-to-one ps once) c.code x r names told))
+            (renamed-reply ps (one-to-one ps once) c.code x r names told)
 
         -- the thread goes on after the reply, and settles
         pub goes-on-by : settle c.code (after_reply (private_by ps x) (step c.code (private_by ps x)) (reply_by ps r))
             ≡ private_by ps (settle c.code (after_reply x (step c.code x) r))
         goes-on-by =
             ap (settle c.code) replied-by
-            ∙ subst (λ (f : ℕ → ℕ). settle c.code (rename_private f (after_reply x (step c.code x) r)) ≡ rename_private f (settle c.code (after_reply x (step c.code x) r)))
-            (renaming ps) (renamed-settles ps (one-to-one ps once) c.code (after_reply x (step c.code x) r) names-replied)
+            ∙ renamed-settles ps (one-to-one ps once) c.code (after_reply x (step c.code x) r) names-replied
 
   -- the thread by heap number stands at the same act by heap number
   pub stands-by : (o : Option Pair) (x : Private) (h : Head) → PrivateIn (IsOld ps) x → head_of (code_step o x) ≡ Some h →

@@ -20,7 +20,7 @@ use Rattle.kt_code.specs.declared.private.Head.{Head}
 use Rattle.kt_code.specs.declared.private.Head.TheVariants as head
 use Rattle.kt_code.specs.declared.private.Private.{Private}
 use Rattle.kt_heap.specs.Heap as heap
-use Rattle.kt_heap.specs.ByNumber.{Pairs}
+use Rattle.kt_mem.specs.Renaming.{Pairs}
 use Rattle.kt_pair.specs.Pair.{Pair}
 use Rattle.kt_lone.specs.Job.{Job, version_at, types_at, types_of}
 use Rattle.kt_lone.specs.Laws.{AreTurnsOf}

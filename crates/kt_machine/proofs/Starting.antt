@@ -15,7 +15,8 @@ use Rattle.kt_lone.specs.Update.{first_memory}
 use Rattle.kt_lone.specs.World.{Live, Shared, World}
 use Rattle.kt_machine.specs.declared.machine.Standing.TheVariants as standing
 use Rattle.kt_machine.specs.Engine.{code_engine, code_entry, code_settle, world_of, AreCodesOf}
-use Rattle.kt_heap.specs.ByNumber.{Pairs, by_number}
+use Rattle.kt_mem.specs.Renaming.{Pairs}
+use Rattle.kt_heap.specs.ByNumber.{by_number}
 use Rattle.kt_machine.specs.ByNumber.{private_by}
 use Rattle.kt_machine.specs.Outside.{Outside, pairs_in}
 use Rattle.kt_machine.specs.Shared as machine

@@ -16,7 +16,7 @@ use Rattle.kt_code.specs.declared.private.Head.{Head}
 use Rattle.kt_code.specs.declared.private.Head.TheVariants as head
 use Rattle.kt_code.specs.declared.private.Private.{Private}
 use Rattle.kt_heap.specs.Heap as heap
-use Rattle.kt_heap.specs.ByNumber.{Pairs, number_of}
+use Rattle.kt_mem.specs.Renaming.{Pairs, renamed}
 use Rattle.kt_exec.specs.Renaming.{ActIn, HeadIn, IsOld, PrivateIn, ReplyIn, rename_act}
 use Rattle.kt_pair.specs.Pair.{Pair}
 use Rattle.kt_lone.specs.Turn.{answered, has_ended}
@@ -256,6 +256,6 @@ module _ (codes : List Pair) where
 
 -- a lock waits by address as it does by heap number
 pub waits_at-by : (o : Outside) (a : Act) → heap.IsPairing (pairs_in o) (heap.memory o.heap) → ActIn (IsOld (pairs_in o)) a →
-    waits_at (shown o).memory (rename_act (number_of (pairs_in o)) a) ≡ waits_at (heap.memory o.heap) a
+    waits_at (shown o).memory (rename_act (renamed (pairs_in o)) a) ≡ waits_at (heap.memory o.heap) a
 waits_at-by o (act.Lock p) pairing names = waits-by o 0 p pairing names
 waits_at-by o a pairing names = refl

@@ -14,7 +14,7 @@ use Rattle.kt_code.specs.Settling as settling
 use Rattle.kt_code.specs.declared.private.Head.{Head}
 use Rattle.kt_code.specs.declared.private.Head.TheVariants as head
 use Rattle.kt_code.specs.declared.private.Private.{Private}
-use Rattle.kt_heap.specs.ByNumber.{Pairs}
+use Rattle.kt_mem.specs.Renaming.{Pairs}
 use Rattle.kt_exec.specs.Renaming.{IsOld, PrivateIn}
 use Rattle.kt_pair.specs.Pair.{Pair}
 use Rattle.kt_pair.specs.VersionActs.{DoesVersion, FitsEntries, entry_state}

@@ -15,7 +15,8 @@ use Rattle.kt_mem.specs.declared.steps.Reply.TheVariants.{Done, Got, Trapped}
 use Rattle.kt_mem.specs.declared.steps.Trap.{Trap}
 use Rattle.kt_mem.specs.Memory.{Memory, Object}
 use Rattle.kt_heap.specs.Heap as heap
-use Rattle.kt_heap.specs.ByNumber.{Pairs, by_number}
+use Rattle.kt_mem.specs.Renaming.{Pairs}
+use Rattle.kt_heap.specs.ByNumber.{by_number}
 use Rattle.kt_exec.specs.Renaming.{ReplyIn}
 use Rattle.kt_meaning.specs.Effects as plain
 use Rattle.kt_machine.specs.ByNumber.{reply_by}

@@ -1,7 +1,7 @@
 //! What an act does to memory, input and output.
 ghost use Rattle.std.specs.Prelude.{◌≡◌, IfOk, OnOk};
 ghost use Rattle.kt_meaning.specs.Effects.{effect};
-ghost use Rattle.kt_heap.specs.ByNumber.{number_of};
+ghost use Rattle.kt_mem.specs.Renaming.{renamed};
 ghost use Rattle.kt_exec.specs.Renaming.{ActIn, IsOld, rename_act};
 ghost use Rattle.kt_machine.specs.ByNumber.{Grows};
 ghost use Rattle.kt_machine.specs.Outside.{IsComplete, OutcomeIn, outcome_of, pairs_in, shown};
@@ -33,7 +33,7 @@ pub fn effect(
 ) -> Result<Outcome, AllocError>
     requires complete { IsComplete types.now act.now }
     requires names { ActIn (IsOld (pairs_in outside.old)) act.now }
-    ensures outcome { IfOk result (λ o. effect types.now thread (rename_act (number_of (pairs_in outside.old)) act.now) (shown outside.old) ≡ outcome_of (pairs_in outside.new) o (shown outside.new)) }
+    ensures outcome { IfOk result (λ o. effect types.now thread (rename_act (renamed (pairs_in outside.old)) act.now) (shown outside.old) ≡ outcome_of (pairs_in outside.new) o (shown outside.new)) }
     ensures kept { IfOk result (λ o. (o ≡ Outcome.Waits → shown outside.new ≡ shown outside.old) × (o ≡ Outcome.Elsewhere → shown outside.new ≡ shown outside.old)) }
     ensures names { IfOk result (λ o. OutcomeIn (IsOld (pairs_in outside.new)) o) }
     ensures grows { OnOk result (Grows (pairs_in outside.old) (pairs_in outside.new)) }

@@ -24,6 +24,7 @@ pub struct Outside {
 
 impl Model for Outside {
     ghost use Rattle.std.specs.Prelude.{◌≤◌, drop, length};
+    ghost use Rattle.kt_mem.specs.Renaming.{rename_value, renamed};
     ghost use Rattle.kt_heap.specs.ByNumber.{HoldsGiven};
     ghost use Rattle.kt_heap.specs.Heap.{memory, given as given_out};
     ghost use Rattle.kt_machine.specs.Outside.{Outside, HasCharLiterals};
@@ -38,12 +39,12 @@ impl Model for Outside {
 impl Outside {
     ghost use Rattle.std.specs.Option.{is_some};
     ghost use Rattle.std.specs.Prelude.{◌≡◌, ◌≢◌, ◌≤◌, [], true, length, IfOk, if◌then◌else◌};
-    ghost use Rattle.kt_heap.specs.ByNumber.{number_of, HoldsGiven};
+    ghost use Rattle.kt_heap.specs.ByNumber.{HoldsGiven};
     ghost use Rattle.kt_heap.specs.Heap.{memory, AreOneToOne, IsPairing, given as given_out};
     ghost use Rattle.kt_meaning.specs.Effects as plain;
     ghost use Rattle.kt_mem.specs.Memory as mem;
     ghost use Rattle.kt_types.specs.Layout.{cells, layout};
-    ghost use Rattle.kt_exec.specs.Renaming.{IsOld, PiecesIn, ReplyIn, ValueIn, rename_pieces, rename_value};
+    ghost use Rattle.kt_exec.specs.Renaming.{IsOld, PiecesIn, ReplyIn, ValueIn, rename_pieces};
     ghost use Rattle.kt_machine.specs.ByNumber.{reply_by, Grows};
     ghost use Rattle.kt_machine.specs.Outside.{done, given, outcome_of, pairs_in, shown, AreNumbers, HasCharLiterals, OutcomeIn};
     ghost use Rattle.kt_lone.specs.Update.{placed};
@@ -99,7 +100,7 @@ impl Outside {
     /// What the cell at a pointer holds.
     pub fn load(&self, p: Value, ty: Ty) -> Reply
         requires { ValueIn (IsOld (pairs_in self.now)) p }
-        ensures reads { plain.reads (shown self.now) (mem.load (shown self.now).memory (rename_value (number_of (pairs_in self.now)) p) ty) ≡ plain.Replies (reply_by (pairs_in self.now) result) (shown self.now) }
+        ensures reads { plain.reads (shown self.now) (mem.load (shown self.now).memory (rename_value (renamed (pairs_in self.now)) p) ty) ≡ plain.Replies (reply_by (pairs_in self.now) result) (shown self.now) }
         ensures names { ReplyIn (IsOld (pairs_in self.now)) result }
     {
         self.heap.law();
@@ -110,7 +111,7 @@ impl Outside {
     pub fn store(&mut self, p: Value, ty: Ty, v: Value) -> Reply
         requires pointer { ValueIn (IsOld (pairs_in self.old)) p }
         requires value { ValueIn (IsOld (pairs_in self.old)) v }
-        ensures leaves { plain.leaves (shown self.old) (mem.store (shown self.old).memory (rename_value (number_of (pairs_in self.old)) p) ty (rename_value (number_of (pairs_in self.old)) v)) ≡ plain.Replies (reply_by (pairs_in self.new) result) (shown self.new) }
+        ensures leaves { plain.leaves (shown self.old) (mem.store (shown self.old).memory (rename_value (renamed (pairs_in self.old)) p) ty (rename_value (renamed (pairs_in self.old)) v)) ≡ plain.Replies (reply_by (pairs_in self.new) result) (shown self.new) }
         ensures names { ReplyIn (IsOld (pairs_in self.new)) result }
         ensures pairs { pairs_in self.new ≡ pairs_in self.old }
     {
@@ -139,7 +140,7 @@ impl Outside {
     /// Ends the heap object at a pointer.
     pub fn release(&mut self, p: Value) -> Reply
         requires { ValueIn (IsOld (pairs_in self.old)) p }
-        ensures leaves { plain.leaves (shown self.old) (mem.release (shown self.old).memory (rename_value (number_of (pairs_in self.old)) p)) ≡ plain.Replies (reply_by (pairs_in self.new) result) (shown self.new) }
+        ensures leaves { plain.leaves (shown self.old) (mem.release (shown self.old).memory (rename_value (renamed (pairs_in self.old)) p)) ≡ plain.Replies (reply_by (pairs_in self.new) result) (shown self.new) }
         ensures names { ReplyIn (IsOld (pairs_in self.new)) result }
         ensures pairs { pairs_in self.new ≡ pairs_in self.old }
     {
@@ -150,7 +151,7 @@ impl Outside {
     /// A thread locks a mutex, or waits for it.
     pub fn lock(&mut self, thread: u8, p: Value) -> Outcome
         requires { ValueIn (IsOld (pairs_in self.old)) p }
-        ensures outcome { (if mem.waits (shown self.old).memory thread (rename_value (number_of (pairs_in self.old)) p) then plain.Waits else plain.leaves (shown self.old) (mem.lock (shown self.old).memory thread (rename_value (number_of (pairs_in self.old)) p))) ≡ outcome_of (pairs_in self.new) result (shown self.new) }
+        ensures outcome { (if mem.waits (shown self.old).memory thread (rename_value (renamed (pairs_in self.old)) p) then plain.Waits else plain.leaves (shown self.old) (mem.lock (shown self.old).memory thread (rename_value (renamed (pairs_in self.old)) p))) ≡ outcome_of (pairs_in self.new) result (shown self.new) }
         ensures kept { result ≡ Outcome.Waits → shown self.new ≡ shown self.old }
         ensures here { result ≢ Outcome.Elsewhere }
         ensures names { OutcomeIn (IsOld (pairs_in self.new)) result }
@@ -167,7 +168,7 @@ impl Outside {
     /// A thread unlocks a mutex.
     pub fn unlock(&mut self, thread: u8, p: Value) -> Reply
         requires { ValueIn (IsOld (pairs_in self.old)) p }
-        ensures leaves { plain.leaves (shown self.old) (mem.unlock (shown self.old).memory thread (rename_value (number_of (pairs_in self.old)) p)) ≡ plain.Replies (reply_by (pairs_in self.new) result) (shown self.new) }
+        ensures leaves { plain.leaves (shown self.old) (mem.unlock (shown self.old).memory thread (rename_value (renamed (pairs_in self.old)) p)) ≡ plain.Replies (reply_by (pairs_in self.new) result) (shown self.new) }
         ensures names { ReplyIn (IsOld (pairs_in self.new)) result }
         ensures pairs { pairs_in self.new ≡ pairs_in self.old }
     {
@@ -178,7 +179,7 @@ impl Outside {
     /// The mutex at a pointer is made free.
     pub fn init_mutex(&mut self, p: Value) -> Reply
         requires { ValueIn (IsOld (pairs_in self.old)) p }
-        ensures leaves { plain.leaves (shown self.old) (mem.init_mutex (shown self.old).memory (rename_value (number_of (pairs_in self.old)) p)) ≡ plain.Replies (reply_by (pairs_in self.new) result) (shown self.new) }
+        ensures leaves { plain.leaves (shown self.old) (mem.init_mutex (shown self.old).memory (rename_value (renamed (pairs_in self.old)) p)) ≡ plain.Replies (reply_by (pairs_in self.new) result) (shown self.new) }
         ensures names { ReplyIn (IsOld (pairs_in self.new)) result }
         ensures pairs { pairs_in self.new ≡ pairs_in self.old }
     {
@@ -205,7 +206,7 @@ impl Outside {
     /// Writes the pieces.
     pub fn print(&mut self, pieces: &[Piece]) -> Result<Reply, AllocError>
         requires { PiecesIn (IsOld (pairs_in self.old)) pieces.now }
-        ensures writes { IfOk result (λ r. plain.writes (shown self.old) (plain.pieces_text (shown self.old).memory (rename_pieces (number_of (pairs_in self.old)) pieces.now)) ≡ plain.Replies (reply_by (pairs_in self.new) r) (shown self.new)) }
+        ensures writes { IfOk result (λ r. plain.writes (shown self.old) (plain.pieces_text (shown self.old).memory (rename_pieces (renamed (pairs_in self.old)) pieces.now)) ≡ plain.Replies (reply_by (pairs_in self.new) r) (shown self.new)) }
         ensures names { IfOk result (λ r. ReplyIn (IsOld (pairs_in self.new)) r) }
         ensures pairs { pairs_in self.new ≡ pairs_in self.old }
     {

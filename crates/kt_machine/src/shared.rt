@@ -52,7 +52,8 @@ impl Model for Shared {
 
 impl Shared {
     ghost use Rattle.std.specs.Prelude.{◌≡◌, ◌+◌, ◌<◌, ◌≤◌, ◌^◌, [], ◌∷◌, ◌++◌, IfOk, None, OnOk, Some, drop, length, vec_len};
-    ghost use Rattle.kt_heap.specs.ByNumber.{by_number, number_of, HoldsGiven};
+    ghost use Rattle.kt_mem.specs.Renaming.{renamed};
+    ghost use Rattle.kt_heap.specs.ByNumber.{by_number, HoldsGiven};
     ghost use Rattle.kt_heap.specs.Heap.{memory, given, AreOneToOne};
     ghost use Rattle.kt_meaning.specs.Effects as plain;
     ghost use Rattle.kt_exec.specs.Renaming.{ActIn, IsOld, rename_act};
@@ -115,7 +116,7 @@ impl Shared {
     ) -> Result<Outcome, AllocError>
         requires complete { IsComplete types.now act.now }
         requires names { ActIn (IsOld (pairs_in self.old.outside)) act.now }
-        ensures outcome { IfOk result (λ o. plain.effect types.now thread (rename_act (number_of (pairs_in self.old.outside)) act.now) (shown self.old.outside) ≡ outcome_of (pairs_in self.new.outside) o (shown self.new.outside)) }
+        ensures outcome { IfOk result (λ o. plain.effect types.now thread (rename_act (renamed (pairs_in self.old.outside)) act.now) (shown self.old.outside) ≡ outcome_of (pairs_in self.new.outside) o (shown self.new.outside)) }
         ensures names { IfOk result (λ o. OutcomeIn (IsOld (pairs_in self.new.outside)) o) }
         ensures grows { OnOk result (Grows (pairs_in self.old.outside) (pairs_in self.new.outside)) }
         ensures kept { IfOk result (λ o. (o ≡ Outcome.Waits → shown self.new.outside ≡ shown self.old.outside)

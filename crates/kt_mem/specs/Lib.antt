@@ -3,6 +3,7 @@ pub mod Arithmetic
 pub mod Comparisons
 pub mod Elements
 pub mod Memory
+pub mod Renaming
 pub mod Stored
 pub mod Kept
 pub mod Laws

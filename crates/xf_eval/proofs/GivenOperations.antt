@@ -17,7 +17,8 @@ use Rattle.kt_mem.specs.Comparisons.{truth_of, falsehood_of, compared}
 use Rattle.kt_mem.specs.Elements.{element_after, element_before, whole_elements}
 use Rattle.kt_mem.specs.Values.{int_eq}
 use Rattle.kt_meaning.specs.Operations.{element_sum, field_place}
-use Rattle.kt_heap.specs.ByNumber.{Pairs, WasGiven}
+use Rattle.kt_mem.specs.Renaming.{Pairs}
+use Rattle.kt_heap.specs.ByNumber.{WasGiven}
 
 -- the value, if there is one, was given out
 abbrev pub Given : Pairs → Result Value Trap → Type 0

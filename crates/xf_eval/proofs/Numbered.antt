@@ -25,7 +25,8 @@ use Rattle.kt_tree.specs.Tree.{Expression, Constant', LocalRead, LocalSet, Local
 use Rattle.kt_meaning.specs.Operations.{apply_operation, arithmetic, at_type, of_one, of_two, element_sum, field_place, width}
 use Rattle.kt_meaning.specs.Thread.{defined_if}
 use Rattle.kt_heap.specs.Heap.{Paired, IsPairing}
-use Rattle.kt_heap.specs.ByNumber.{Pairs, name_by_number, value_by_number, by_number, answer_by, WasGiven, HoldsGiven}
+use Rattle.kt_mem.specs.Renaming.{Pairs, rename_name, rename_value}
+use Rattle.kt_heap.specs.ByNumber.{by_number, answer_by, WasGiven, HoldsGiven}
 use Rattle.kt_heap.proofs.NumberLaws.{loads_by_number}
 use Rattle.kt_heap.proofs.GivenLaws.{loads_given}
 use Rattle.kt_heap.proofs.Pairs.{number_there}
@@ -65,10 +66,10 @@ same-next {A} {B} f G g H x' (Err t) k' k s each = subst (λ (y : Result A Trap)
 
 -- by whether a value is zero
 pub same-if : {A : Type 0} (pairs : Pairs) (f : A → A) (G : A → Type 0) (v' v : Result Value Trap) (x' x y' y : Result A Trap) →
-    Same (value_by_number pairs) (WasGiven pairs) v' v → Same f G x' x → Same f G y' y → Same f G (if_zero v' x' y') (if_zero v x y)
+    Same (rename_value (renamed pairs)) (WasGiven pairs) v' v → Same f G x' x → Same f G y' y → Same f G (if_zero v' x' y') (if_zero v x y)
 same-if {A} pairs f G v' v x' x y' y s sx sy = by (next v zero_test) refl
   where
-    test-same : (r : Result Value Trap) → next (answer_by (value_by_number pairs) r) zero_test ≡ next r zero_test
+    test-same : (r : Result Value Trap) → next (answer_by (rename_value (renamed pairs)) r) zero_test ≡ next r zero_test
     test-same (Ok w) = zero_test-same pairs w
     test-same (Err t) = refl
 
@@ -88,17 +89,17 @@ same-if {A} pairs f G v' v x' x y' y s sx sy = by (next v zero_test) refl
 
 module _ (pairs : Pairs) (m : Memory) (kept : IsPairing pairs m) (holds : HoldsGiven pairs m) (types : Table) where
   abbrev num : Value → Value
-  num v = value_by_number pairs v
+  num v = rename_value (renamed pairs) v
 
   abbrev SameValue : Result Value Trap → Result Value Trap → Type 0
-  SameValue r' r = Same (value_by_number pairs) (WasGiven pairs) r' r
+  SameValue r' r = Same (rename_value (renamed pairs)) (WasGiven pairs) r' r
 
   from-parts : (r' r : Result Value Trap) → r' ≡ rename_result pairs r → Given pairs r → SameValue r' r
   from-parts r' (Ok v) is g = record { is = is; given = g }
   from-parts r' (Err t) is g = record { is = is; given = g }
 
   trap-same : SameValue (Err trap.Uninit) (Err trap.Uninit)
-  trap-same = same-err (value_by_number pairs) (WasGiven pairs) trap.Uninit
+  trap-same = same-err (rename_value (renamed pairs)) (WasGiven pairs) trap.Uninit
 
   -- ---- names
 
@@ -117,7 +118,7 @@ module _ (pairs : Pairs) (m : Memory) (kept : IsPairing pairs m) (holds : HoldsG
             ]
       ]
 
-  name-same : (n o : Name) → NameGiven pairs n → NameGiven pairs o → name_eq (name_by_number pairs n) (name_by_number pairs o) ≡ name_eq n o
+  name-same : (n o : Name) → NameGiven pairs n → NameGiven pairs o → name_eq (rename_name (renamed pairs) n) (rename_name (renamed pairs) o) ≡ name_eq n o
   name-same (Glob i) (Glob j) g h = refl
   name-same (Glob i) (Lit v j) g h = refl
   name-same (Glob i) (Heap b) g h = refl
@@ -143,13 +144,13 @@ module _ (pairs : Pairs) (m : Memory) (kept : IsPairing pairs m) (holds : HoldsG
   AllGiven (v ∷ vs) = WasGiven pairs v × AllGiven vs
 
   one : (f : Value → Result Value Trap) → ((a : Value) → WasGiven pairs a → SameValue (f (num a)) (f a)) → (vs : List Value) → AllGiven vs →
-      SameValue (of_one f (map (value_by_number pairs) vs)) (of_one f vs)
+      SameValue (of_one f (map (rename_value (renamed pairs)) vs)) (of_one f vs)
   one f each [] g = trap-same
   one f each (a ∷ []) g = each a g.0
   one f each (a ∷ b ∷ vs) g = trap-same
 
   two : (f : Value → Value → Result Value Trap) → ((a b : Value) → WasGiven pairs a → WasGiven pairs b → SameValue (f (num a) (num b)) (f a b)) →
-      (vs : List Value) → AllGiven vs → SameValue (of_two f (map (value_by_number pairs) vs)) (of_two f vs)
+      (vs : List Value) → AllGiven vs → SameValue (of_two f (map (rename_value (renamed pairs)) vs)) (of_two f vs)
   two f each [] g = trap-same
   two f each (a ∷ []) g = trap-same
   two f each (a ∷ b ∷ []) g = each a b g.0 g.1.0
@@ -157,7 +158,7 @@ module _ (pairs : Pairs) (m : Memory) (kept : IsPairing pairs m) (holds : HoldsG
 
   arith-same : (f : Ty → Value → Value → Result Value Trap) →
       ((u : Ty) (a b : Value) → WasGiven pairs a → WasGiven pairs b → SameValue (f u (num a) (num b)) (f u a b)) → (t : Option Ty) (vs : List Value) → AllGiven vs →
-      SameValue (arithmetic f t (map (value_by_number pairs) vs)) (arithmetic f t vs)
+      SameValue (arithmetic f t (map (rename_value (renamed pairs)) vs)) (arithmetic f t vs)
   arith-same f each None vs g = two (λ a b. Err trap.Uninit) (λ a b g h. trap-same) vs g
   arith-same f each (Some u) vs g = two (f u) (each u) vs g
 
@@ -173,7 +174,7 @@ module _ (pairs : Pairs) (m : Memory) (kept : IsPairing pairs m) (holds : HoldsG
       by (Some fields) = from-parts _ (field_place types (Some fields) index a) (moved-renamed pairs a _) (field-given pairs types (Some fields) index a g)
 
   pub applied-same : (op : Operation) (t : ℕ) (vs : List Value) → AllGiven vs →
-      SameValue (apply_operation types op t (map (value_by_number pairs) vs)) (apply_operation types op t vs)
+      SameValue (apply_operation types op t (map (rename_value (renamed pairs)) vs)) (apply_operation types op t vs)
   applied-same operation.Add t vs g = arith-same sum_of (λ u a b g h. from-parts _ (sum_of u a b) (sum-renamed pairs u a b) (sum-given pairs u a b g h)) (slice_get types.types t) vs g
   applied-same operation.Subtract t vs g =
       arith-same difference_of (λ u a b g h. from-parts _ (difference_of u a b) (difference-renamed pairs u a b (keeps a b g h)) (difference-given pairs u a b g h)) (slice_get types.types t) vs g
@@ -217,9 +218,9 @@ module _ (pairs : Pairs) (m : Memory) (kept : IsPairing pairs m) (holds : HoldsG
     here = record { types = types; memory = m; locals = locals }
 
     abbrev there : Reading
-    there = record { types = types; memory = by_number pairs m; locals = map (value_by_number pairs) locals }
+    there = record { types = types; memory = by_number pairs m; locals = map (rename_value (renamed pairs)) locals }
 
-    requested-same : (q : Request) (t : Option ℕ) (vs : List Value) → AllGiven vs → SameValue (requested there q t (map (value_by_number pairs) vs)) (requested here q t vs)
+    requested-same : (q : Request) (t : Option ℕ) (vs : List Value) → AllGiven vs → SameValue (requested there q t (map (rename_value (renamed pairs)) vs)) (requested here q t vs)
     requested-same request.Load None vs g = trap-same
     requested-same request.Load (Some t) [] g = trap-same
     requested-same request.Load (Some t) (p ∷ []) g = loaded-same (slice_get types.types t) p g.0
@@ -249,10 +250,10 @@ module _ (pairs : Pairs) (m : Memory) (kept : IsPairing pairs m) (holds : HoldsG
     truth-same b = record { is = refl; given = tt }
 
     truth_of-same : (v' v : Result Value Trap) → SameValue v' v → SameValue (truth_of v') (truth_of v)
-    truth_of-same v' v s = same-if pairs (value_by_number pairs) (WasGiven pairs) v' v _ _ _ _ s (truth-same false) (truth-same true)
+    truth_of-same v' v s = same-if pairs (rename_value (renamed pairs)) (WasGiven pairs) v' v _ _ _ _ s (truth-same false) (truth-same true)
 
     abbrev nums : List Value → List Value
-    nums vs = map (value_by_number pairs) vs
+    nums vs = map (rename_value (renamed pairs)) vs
 
     mutual
       pub evaluate-same : (e : Expression) → SameValue (evaluate there e) (evaluate here e)
@@ -261,29 +262,29 @@ module _ (pairs : Pairs) (m : Memory) (kept : IsPairing pairs m) (holds : HoldsG
       evaluate-same (LocalSet x e) = trap-same
       evaluate-same (LocalSwapped x e) = trap-same
       evaluate-same (Operated op t es) =
-          same-next (map (value_by_number pairs)) AllGiven (value_by_number pairs) (WasGiven pairs) (evaluate_all there es) (evaluate_all here es) (apply_operation types op t) (apply_operation types op t)
+          same-next (map (rename_value (renamed pairs))) AllGiven (rename_value (renamed pairs)) (WasGiven pairs) (evaluate_all there es) (evaluate_all here es) (apply_operation types op t) (apply_operation types op t)
           (evaluate_all-same es) (applied-same op t)
       evaluate-same (Requested q t es) =
-          same-next (map (value_by_number pairs)) AllGiven (value_by_number pairs) (WasGiven pairs) (evaluate_all there es) (evaluate_all here es) (requested there q t) (requested here q t)
+          same-next (map (rename_value (renamed pairs))) AllGiven (rename_value (renamed pairs)) (WasGiven pairs) (evaluate_all there es) (evaluate_all here es) (requested there q t) (requested here q t)
           (evaluate_all-same es) (requested-same q t)
       evaluate-same (Modified op own t old a b) = trap-same
       evaluate-same (Both a b) =
-          same-if pairs (value_by_number pairs) (WasGiven pairs) (evaluate there a) (evaluate here a) _ _ _ _ (evaluate-same a) (truth-same false)
+          same-if pairs (rename_value (renamed pairs)) (WasGiven pairs) (evaluate there a) (evaluate here a) _ _ _ _ (evaluate-same a) (truth-same false)
           (truth_of-same (evaluate there b) (evaluate here b) (evaluate-same b))
       evaluate-same (Either a b) =
-          same-if pairs (value_by_number pairs) (WasGiven pairs) (evaluate there a) (evaluate here a) _ _ _ _ (evaluate-same a)
+          same-if pairs (rename_value (renamed pairs)) (WasGiven pairs) (evaluate there a) (evaluate here a) _ _ _ _ (evaluate-same a)
           (truth_of-same (evaluate there b) (evaluate here b) (evaluate-same b)) (truth-same true)
       evaluate-same (Chosen k t a b) =
-          same-if pairs (value_by_number pairs) (WasGiven pairs) (evaluate there k) (evaluate here k) _ _ _ _ (evaluate-same k) (evaluate-same b) (evaluate-same a)
+          same-if pairs (rename_value (renamed pairs)) (WasGiven pairs) (evaluate there k) (evaluate here k) _ _ _ _ (evaluate-same k) (evaluate-same b) (evaluate-same a)
       evaluate-same (Called f es) = trap-same
 
-      pub evaluate_all-same : (es : Expressions) → Same (map (value_by_number pairs)) AllGiven (evaluate_all there es) (evaluate_all here es)
+      pub evaluate_all-same : (es : Expressions) → Same (map (rename_value (renamed pairs))) AllGiven (evaluate_all there es) (evaluate_all here es)
       evaluate_all-same NoMore = record { is = refl; given = tt }
       evaluate_all-same (More e es) =
-          same-next (value_by_number pairs) (WasGiven pairs) (map (value_by_number pairs)) AllGiven (evaluate there e) (evaluate here e)
+          same-next (rename_value (renamed pairs)) (WasGiven pairs) (map (rename_value (renamed pairs))) AllGiven (evaluate there e) (evaluate here e)
           (λ v. next (evaluate_all there es) (λ vs. Ok (v ∷ vs))) (λ v. next (evaluate_all here es) (λ vs. Ok (v ∷ vs))) (evaluate-same e)
-          (λ v g. same-next (map (value_by_number pairs)) AllGiven (map (value_by_number pairs)) AllGiven (evaluate_all there es) (evaluate_all here es)
-          (λ vs. Ok (value_by_number pairs v ∷ vs)) (λ vs. Ok (v ∷ vs)) (evaluate_all-same es) (λ vs h. record { is = refl; given = (g, h) }))
+          (λ v g. same-next (map (rename_value (renamed pairs))) AllGiven (map (rename_value (renamed pairs))) AllGiven (evaluate_all there es) (evaluate_all here es)
+          (λ vs. Ok (rename_value (renamed pairs) v ∷ vs)) (λ vs. Ok (v ∷ vs)) (evaluate_all-same es) (λ vs h. record { is = refl; given = (g, h) }))
 
     -- ---- bodies
 
@@ -295,13 +296,13 @@ module _ (pairs : Pairs) (m : Memory) (kept : IsPairing pairs m) (holds : HoldsG
 
     pub given-same : (t : Ty) (g : body.Given) → SamePre (given there t g) (given here t g)
     given-same t (body.Number e) =
-        same-next (value_by_number pairs) (WasGiven pairs) (pre_by_number pairs) Any (next (evaluate there e) (narrowed t)) (next (evaluate here e) (narrowed t)) (λ v. Ok (Plain v)) (λ v. Ok (Plain v))
-        (same-next (value_by_number pairs) (WasGiven pairs) (value_by_number pairs) (WasGiven pairs) (evaluate there e) (evaluate here e) (narrowed t) (narrowed t) (evaluate-same e)
+        same-next (rename_value (renamed pairs)) (WasGiven pairs) (pre_by_number pairs) Any (next (evaluate there e) (narrowed t)) (next (evaluate here e) (narrowed t)) (λ v. Ok (Plain v)) (λ v. Ok (Plain v))
+        (same-next (rename_value (renamed pairs)) (WasGiven pairs) (rename_value (renamed pairs)) (WasGiven pairs) (evaluate there e) (evaluate here e) (narrowed t) (narrowed t) (evaluate-same e)
         (λ v g. from-parts _ (narrowed t v) (narrowed-renamed pairs t v) (narrowed-given pairs t v)))
         (λ v g. record { is = refl; given = tt })
     given-same t body.Null = record { is = refl; given = tt }
     given-same t (body.Transformed e) =
-        same-next (value_by_number pairs) (WasGiven pairs) (pre_by_number pairs) Any (evaluate there e) (evaluate here e) (λ v. Ok (OldPointer v)) (λ v. Ok (OldPointer v)) (evaluate-same e)
+        same-next (rename_value (renamed pairs)) (WasGiven pairs) (pre_by_number pairs) Any (evaluate there e) (evaluate here e) (λ v. Ok (OldPointer v)) (λ v. Ok (OldPointer v)) (evaluate-same e)
         (λ v g. record { is = refl; given = tt })
     given-same t (body.New u n) = record { is = refl; given = tt }
     given-same t (body.Chosen k a b) =

@@ -15,7 +15,8 @@ use Rattle.kt_mem.specs.declared.memory.Value.TheVariants.{Num, Null, Ptr, Free,
 use Rattle.kt_mem.specs.declared.steps.Trap.{Trap}
 use Rattle.kt_mem.specs.Memory.{Memory, Object, Cell, zero_value}
 use Rattle.kt_heap.specs.Heap.{IsPairing}
-use Rattle.kt_heap.specs.ByNumber.{Pairs, name_by_number, value_by_number, cell_by_number, object_by_number, by_number, WasGiven, HoldsGiven}
+use Rattle.kt_mem.specs.Renaming.{Pairs, rename_name, rename_value}
+use Rattle.kt_heap.specs.ByNumber.{cell_by_number, object_by_number, by_number, WasGiven, HoldsGiven}
 use Rattle.kt_heap.proofs.Renamed.{NameGiven, name_given, object_there}
 use Rattle.xf_plan.specs.Bodies.{Actions}
 use Rattle.xf_plan.specs.Correspondence.{new_type}
@@ -30,7 +31,7 @@ use Rattle.xf_eval.specs.Asked.{Answers, at_place, source_at, cell_of, part_cell
 use Rattle.xf_eval.specs.ByNumber.{pre_by_number, told_by_number, answered_by_number, CellsByNumber, GlobalsByNumber, LocalsByNumber}
 use Rattle.xf_eval.proofs.Numbered.{body-same}
 
-let_go-by : (pairs : Pairs) (v : Value) → let_go (value_by_number pairs v) ≡ value_by_number pairs (let_go v)
+let_go-by : (pairs : Pairs) (v : Value) → let_go (rename_value (renamed pairs) v) ≡ rename_value (renamed pairs) (let_go v)
 let_go-by pairs (Num z) = refl
 let_go-by pairs Null = refl
 let_go-by pairs (Ptr n k) = refl
@@ -38,7 +39,7 @@ let_go-by pairs Free = refl
 let_go-by pairs (Held w) = refl
 let_go-by pairs Undef = refl
 
-default-by : (pairs : Pairs) (t : Ty) (v : Value) → by_default t (value_by_number pairs v) ≡ pre_by_number pairs (by_default t v)
+default-by : (pairs : Pairs) (t : Ty) (v : Value) → by_default t (rename_value (renamed pairs) v) ≡ pre_by_number pairs (by_default t v)
 default-by pairs ty.Char v = refl
 default-by pairs ty.Int v = refl
 default-by pairs ty.Long v = refl
@@ -57,22 +58,22 @@ zero-by pairs (ty.Array e n) = refl
 zero-by pairs (ty.Ptr u) = refl
 
 module _ (pairs : Pairs) (m : Memory) (kept : IsPairing pairs m) (holds : HoldsGiven pairs m) (p : Plan) where
-  stored-by : (c : Option Cell) → stored (option_map (cell_by_number pairs) c) ≡ value_by_number pairs (stored c)
+  stored-by : (c : Option Cell) → stored (option_map (cell_by_number pairs) c) ≡ rename_value (renamed pairs) (stored c)
   stored-by None = refl
   stored-by (Some c) = refl
 
   held-by : (o : Option Object) (k : ℕ) →
       stored (option_and_then (λ (x : Object). slice_get x.cells k) (option_map (object_by_number pairs) o))
-      ≡ value_by_number pairs (stored (option_and_then (λ (x : Object). slice_get x.cells k) o))
+      ≡ rename_value (renamed pairs) (stored (option_and_then (λ (x : Object). slice_get x.cells k) o))
   held-by None k = refl
   held-by (Some o) k = ap stored (slice_get-map (cell_by_number pairs) o.cells k) ∙ stored-by (slice_get o.cells k)
 
-  old-by : (n : Name) (k : ℕ) → NameGiven pairs n → old_value (by_number pairs m) (name_by_number pairs n) k ≡ value_by_number pairs (old_value m n k)
+  old-by : (n : Name) (k : ℕ) → NameGiven pairs n → old_value (by_number pairs m) (rename_name (renamed pairs) n) k ≡ rename_value (renamed pairs) (old_value m n k)
   old-by n k g =
       ap (λ (o : Option Object). stored (option_and_then (λ (x : Object). slice_get x.cells k) (option_map (object_by_number pairs) o))) (object_there pairs m m.at n kept g)
       ∙ held-by (m.at n) k
 
-  pointer-by : (n : Name) (o : Option ℕ) → pointer_to (name_by_number pairs n) o ≡ value_by_number pairs (pointer_to n o)
+  pointer-by : (n : Name) (o : Option ℕ) → pointer_to (rename_name (renamed pairs) n) o ≡ rename_value (renamed pairs) (pointer_to n o)
   pointer-by n None = refl
   pointer-by n (Some k) = refl
 
@@ -83,7 +84,7 @@ module _ (pairs : Pairs) (m : Memory) (kept : IsPairing pairs m) (holds : HoldsG
   pointer-given (Heap a) (Some k) g = g
 
   pub pre_value-by : (n : Name) (t : Ty) (s : Source) → NameGiven pairs n →
-      pre_value p (by_number pairs m) (name_by_number pairs n) t s ≡ told_by_number pairs (pre_value p m n t s)
+      pre_value p (by_number pairs m) (rename_name (renamed pairs) n) t s ≡ told_by_number pairs (pre_value p m n t s)
   pre_value-by n t (FromCell k) g = ap (λ v. Ok (by_default t v)) (old-by n k g) ∙ ap (λ v. Ok v) (default-by pairs t (old_value m n k))
   pre_value-by n t Zero g = ap (λ v. Ok v) (zero-by pairs t)
   pre_value-by n t (FromBody source base body) g =
@@ -93,33 +94,33 @@ module _ (pairs : Pairs) (m : Memory) (kept : IsPairing pairs m) (holds : HoldsG
       (body-same pairs m kept holds p.old (first ∷ second ∷ []) (pointer-given n source g, (pointer-given n base g, tt)) t body)
 
   cell_of-by : (n : Name) (t : Option Ty) (s : Option Source) → NameGiven pairs n →
-      cell_of p (by_number pairs m) (name_by_number pairs n) t s ≡ option_map (told_by_number pairs) (cell_of p m n t s)
+      cell_of p (by_number pairs m) (rename_name (renamed pairs) n) t s ≡ option_map (told_by_number pairs) (cell_of p m n t s)
   cell_of-by n None s g = refl
   cell_of-by n (Some u) None g = refl
   cell_of-by n (Some u) (Some s) g = ap (λ r. Some r) (pre_value-by n u s g)
 
   part-by : (n : Name) (element i a : ℕ) (b : Option ℕ) → NameGiven pairs n →
-      option_and_then (part_cell p (by_number pairs m) (name_by_number pairs n) element i a) b
+      option_and_then (part_cell p (by_number pairs m) (rename_name (renamed pairs) n) element i a) b
       ≡ option_map (told_by_number pairs) (option_and_then (part_cell p m n element i a) b)
   part-by n element i a None g = refl
   part-by n element i a (Some b) g =
       cell_of-by n (slice_get (cells p.new b) i) (option_map (moved_by (element * width p.old a)) (source_at p a b i)) g
 
   object-by : (n : Name) (element i : ℕ) (o : Option Object) → NameGiven pairs n →
-      option_and_then (element_cell p (by_number pairs m) (name_by_number pairs n) element i) (option_map (object_by_number pairs) o)
+      option_and_then (element_cell p (by_number pairs m) (rename_name (renamed pairs) n) element i) (option_map (object_by_number pairs) o)
       ≡ option_map (told_by_number pairs) (option_and_then (element_cell p m n element i) o)
   object-by n element i None g = refl
   object-by n element i (Some o) g = part-by n element i o.ty (new_type p o.ty) g
 
   pub cell-by : (n : Name) (element i : ℕ) → NameGiven pairs n →
-      cell_value p (by_number pairs m) (name_by_number pairs n) element i ≡ option_map (told_by_number pairs) (cell_value p m n element i)
+      cell_value p (by_number pairs m) (rename_name (renamed pairs) n) element i ≡ option_map (told_by_number pairs) (cell_value p m n element i)
   cell-by n element i g =
-      ap (λ (o : Option Object). option_and_then (element_cell p (by_number pairs m) (name_by_number pairs n) element i) (option_map (object_by_number pairs) o)) (object_there pairs m m.at n kept g)
+      ap (λ (o : Option Object). option_and_then (element_cell p (by_number pairs m) (rename_name (renamed pairs) n) element i) (option_map (object_by_number pairs) o)) (object_there pairs m m.at n kept g)
       ∙ object-by n element i (m.at n) g
 
   -- ---- globals
 
-  origin-by : (s : GlobalSource) → name_by_number pairs (origin s) ≡ origin s
+  origin-by : (s : GlobalSource) → rename_name (renamed pairs) (origin s) ≡ origin s
   origin-by Unmapped = refl
   origin-by (OldGlobal g a n) = refl
   origin-by (GlobalBody None body) = refl
@@ -142,22 +143,22 @@ module _ (pairs : Pairs) (m : Memory) (kept : IsPairing pairs m) (holds : HoldsG
   -- ---- noted locals
 
   pre_local-by : (t : Ty) (acts : Option Actions) (v : Value) → WasGiven pairs v →
-      pre_local p (by_number pairs m) t acts (value_by_number pairs v) ≡ told_by_number pairs (pre_local p m t acts v)
+      pre_local p (by_number pairs m) t acts (rename_value (renamed pairs) v) ≡ told_by_number pairs (pre_local p m t acts v)
   pre_local-by t None v g = ap (λ r. Ok r) (default-by pairs t v)
   pre_local-by t (Some acts) v g = body-same pairs m kept holds p.old (v ∷ Undef ∷ []) (g, (tt, tt)) t acts
 
   typed-by : (t : Option Ty) (acts : Option Actions) (v : Value) → WasGiven pairs v →
-      option_map (λ u. pre_local p (by_number pairs m) u acts (value_by_number pairs v)) t ≡ option_map (told_by_number pairs) (option_map (λ u. pre_local p m u acts v) t)
+      option_map (λ u. pre_local p (by_number pairs m) u acts (rename_value (renamed pairs) v)) t ≡ option_map (told_by_number pairs) (option_map (λ u. pre_local p m u acts v) t)
   typed-by None acts v g = refl
   typed-by (Some u) acts v g = ap (λ r. Some r) (pre_local-by u acts v g)
 
   source-by : (r : LocalRule) (s : Option LocalSource) (v : Value) → WasGiven pairs v →
-      option_and_then (source_value p (by_number pairs m) (value_by_number pairs v) r) s ≡ option_map (told_by_number pairs) (option_and_then (source_value p m v r) s)
+      option_and_then (source_value p (by_number pairs m) (rename_value (renamed pairs) v) r) s ≡ option_map (told_by_number pairs) (option_and_then (source_value p m v r) s)
   source-by r None v g = refl
   source-by r (Some s) v g = typed-by (slice_get p.new.types r.ty) s.body v g
 
   pub local-by : (r : Option LocalRule) (v : Value) → WasGiven pairs v →
-      option_and_then (λ (x : LocalRule). option_and_then (source_value p (by_number pairs m) (value_by_number pairs v) x) x.source) r
+      option_and_then (λ (x : LocalRule). option_and_then (source_value p (by_number pairs m) (rename_value (renamed pairs) v) x) x.source) r
       ≡ option_map (told_by_number pairs) (option_and_then (λ (x : LocalRule). option_and_then (source_value p m v x) x.source) r)
   local-by None v g = refl
   local-by (Some r) v g = source-by r r.source v g

@@ -7,7 +7,8 @@ use Rattle.kt_mem.specs.declared.memory.Value.TheVariants.{Ptr}
 use Rattle.kt_mem.specs.declared.steps.Trap.{Trap}
 use Rattle.kt_mem.specs.Memory.{Memory}
 use Rattle.kt_heap.specs.Heap.{IsPairing}
-use Rattle.kt_heap.specs.ByNumber.{Pairs, name_by_number, value_by_number, by_number, answer_by, WasGiven, HoldsGiven}
+use Rattle.kt_mem.specs.Renaming.{Pairs, rename_name, rename_value}
+use Rattle.kt_heap.specs.ByNumber.{by_number, answer_by, WasGiven, HoldsGiven}
 use Rattle.xf_plan.specs.Plan.{Plan}
 use Rattle.xf_plan.specs.declared.value.PreValue.{PreValue}
 use Rattle.xf_plan.specs.declared.value.PreValue.TheVariants.{Plain, OldPointer, Fresh}
@@ -15,8 +16,8 @@ use Rattle.xf_eval.specs.declared.faults.PreFault.{PreFault}
 use Rattle.xf_eval.specs.Asked.{cell_value, global_value, local_value}
 
 abbrev pub pre_by_number : Pairs → PreValue → PreValue
-pre_by_number pairs (Plain v) = Plain (value_by_number pairs v)
-pre_by_number pairs (OldPointer v) = OldPointer (value_by_number pairs v)
+pre_by_number pairs (Plain v) = Plain (rename_value (renamed pairs) v)
+pre_by_number pairs (OldPointer v) = OldPointer (rename_value (renamed pairs) v)
 pre_by_number pairs (Fresh t n) = Fresh t n
 
 -- what the definition tells, and what a call answers
@@ -33,7 +34,7 @@ answered_by_number pairs (Err f) = Err f
 abbrev pub CellsByNumber : Type 0
 CellsByNumber =
     (pairs : Pairs) (m : Memory) (p : Plan) (n : Name) (element i : ℕ) → IsPairing pairs m → HoldsGiven pairs m → WasGiven pairs (Ptr n 0)
-    → cell_value p (by_number pairs m) (name_by_number pairs n) element i ≡ option_map (told_by_number pairs) (cell_value p m n element i)
+    → cell_value p (by_number pairs m) (rename_name (renamed pairs) n) element i ≡ option_map (told_by_number pairs) (cell_value p m n element i)
 
 abbrev pub GlobalsByNumber : Type 0
 GlobalsByNumber =
@@ -43,4 +44,4 @@ GlobalsByNumber =
 abbrev pub LocalsByNumber : Type 0
 LocalsByNumber =
     (pairs : Pairs) (m : Memory) (p : Plan) (f x : ℕ) (v : Value) → IsPairing pairs m → HoldsGiven pairs m → WasGiven pairs v
-    → local_value p (by_number pairs m) f x (value_by_number pairs v) ≡ option_map (told_by_number pairs) (local_value p m f x v)
+    → local_value p (by_number pairs m) f x (rename_value (renamed pairs) v) ≡ option_map (told_by_number pairs) (local_value p m f x v)

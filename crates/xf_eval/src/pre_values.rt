@@ -3,7 +3,8 @@ ghost use Rattle.std.specs.Prelude.{◌≡◌, ◌+◌, ◌*◌, ◌<◌, ◌≤
 ghost use Rattle.kt_types.specs.Layout.{cells};
 ghost use Rattle.kt_mem.specs.declared.memory.Name.TheVariants as name;
 ghost use Rattle.kt_heap.specs.Heap.{given, memory};
-ghost use Rattle.kt_heap.specs.ByNumber.{by_number, number_of, value_by_number, HoldsGiven, WasGiven};
+ghost use Rattle.kt_mem.specs.Renaming.{rename_value, renamed};
+ghost use Rattle.kt_heap.specs.ByNumber.{by_number, HoldsGiven, WasGiven};
 ghost use Rattle.xf_plan.specs.Correspondence.{converts, new_type};
 ghost use Rattle.xf_plan.specs.Plain.{global_rule_of, global_source_of, local_rule_of, local_source_of, plan_of};
 ghost use Rattle.xf_plan.specs.PreValues.{origin, pre_argument, pre_local};
@@ -53,7 +54,7 @@ pub fn pre_cell(
     requires element { IfSome ((memory heap.now).at (name.Heap object)) (λ o. IsElement (plan_of plan.now) element o) }
     requires there { IsSome (cell_value (plan_of plan.now) (memory heap.now) (name.Heap object) element cell) }
     ensures value { IfSome (cell_value (plan_of plan.now) (memory heap.now) (name.Heap object) element cell) (Answers result) }
-    ensures by_number { HoldsGiven (given heap.now) (memory heap.now) → IfSome (cell_value (plan_of plan.now) (by_number (given heap.now) (memory heap.now)) (name.Heap (number_of (given heap.now) object)) element cell) (Answers (answered_by_number (given heap.now) result)) }
+    ensures by_number { HoldsGiven (given heap.now) (memory heap.now) → IfSome (cell_value (plan_of plan.now) (by_number (given heap.now) (memory heap.now)) (name.Heap (renamed (given heap.now) object)) element cell) (Answers (answered_by_number (given heap.now) result)) }
 {
     heap.law();
     match heap.object(object) {
@@ -160,7 +161,7 @@ pub fn pre_local(
 ) -> Result<PreValue, PreFault>
     requires { IsSome (local_value (plan_of plan.now) (memory heap.now) f local source) }
     ensures value { IfSome (local_value (plan_of plan.now) (memory heap.now) f local source) (Answers result) }
-    ensures by_number { HoldsGiven (given heap.now) (memory heap.now) → WasGiven (given heap.now) source → IfSome (local_value (plan_of plan.now) (by_number (given heap.now) (memory heap.now)) f local (value_by_number (given heap.now) source)) (Answers (answered_by_number (given heap.now) result)) }
+    ensures by_number { HoldsGiven (given heap.now) (memory heap.now) → WasGiven (given heap.now) source → IfSome (local_value (plan_of plan.now) (by_number (given heap.now) (memory heap.now)) f local (rename_value (renamed (given heap.now)) source)) (Answers (answered_by_number (given heap.now) result)) }
 {
     heap.law();
     match local_value(plan, heap, f, local, source) {

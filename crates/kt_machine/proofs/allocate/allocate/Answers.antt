@@ -1,6 +1,7 @@
 use Rattle.std.proofs.Common.{◌≡◌, ℤ, length, sym, ◌∙◌, subst, ap, arith, w64}
 use Rattle.std.proofs.lemmas.Int.{to_z-of_z}
-use Rattle.kt_heap.specs.ByNumber.{Pairs, by_number}
+use Rattle.kt_mem.specs.Renaming.{Pairs}
+use Rattle.kt_heap.specs.ByNumber.{by_number}
 use Rattle.kt_heap.specs.Heap.{memory, given}
 use Rattle.kt_heap.proofs.NumberLaws.{allocs_by_number}
 use Rattle.kt_mem.specs.declared.memory.Name.TheVariants.{Heap}

@@ -1,6 +1,7 @@
 use Rattle.std.proofs.Common.{◌≡◌, ℕ, [], refl, sym, ◌∙◌, ap, subst}
 use Rattle.kt_mem.specs.Memory.{Memory}
-use Rattle.kt_heap.specs.ByNumber.{Pairs, by_number, HoldsGiven}
+use Rattle.kt_mem.specs.Renaming.{Pairs}
+use Rattle.kt_heap.specs.ByNumber.{by_number, HoldsGiven}
 use Rattle.kt_heap.specs.Heap.{memory, given}
 use Rattle.kt_lone.specs.Update.{first_memory}
 use Rattle.kt_machine.specs.Outside.{HasCharLiterals}

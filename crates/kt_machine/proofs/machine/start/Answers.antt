@@ -1,6 +1,6 @@
 use Rattle.std.proofs.Common.{ap, refl, slice_get, sym, subst, ◌∙◌}
 use Rattle.kt_mem.specs.declared.thread.Mode.TheVariants.{Normal}
-use Rattle.kt_heap.specs.ByNumber.{Pairs}
+use Rattle.kt_mem.specs.Renaming.{Pairs}
 use Rattle.kt_exec.specs.Renaming.{IsOld, PrivateIn}
 use Rattle.kt_tree.specs.Version.{Program}
 use Rattle.kt_lone.specs.Plain.{job_of}

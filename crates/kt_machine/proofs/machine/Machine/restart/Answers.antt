@@ -4,7 +4,7 @@ use Rattle.kt_tree.specs.Version.{Program}
 use Rattle.kt_code.specs.Settling.{settle}
 use Rattle.kt_lone.specs.Plain.{job_of}
 use Rattle.kt_lone.specs.World.{Shared}
-use Rattle.kt_heap.specs.ByNumber.{Pairs}
+use Rattle.kt_mem.specs.Renaming.{Pairs}
 use Rattle.kt_exec.specs.Renaming.{IsOld, PrivateIn}
 use Rattle.kt_machine.specs.declared.machine.Machine.{Machine}
 use Rattle.kt_machine.specs.declared.machine.Standing.TheVariants as standing

@@ -1,6 +1,6 @@
 use Rattle.std.proofs.Common.{Some, sym, subst, ap, ◌∙◌, slice_get}
 use Rattle.kt_code.specs.declared.private.Head.{Head}
-use Rattle.kt_heap.specs.ByNumber.{number_of}
+use Rattle.kt_mem.specs.Renaming.{renamed}
 use Rattle.kt_heap.specs.Heap.{State, memory}
 use Rattle.kt_exec.specs.Renaming.{HeadIn, IsOld, rename_act}
 use Rattle.kt_lone.specs.Turn.{has_ended}
@@ -23,7 +23,7 @@ returns-in-Act c =
     c.waits.ensures ∙ ap (λ (h : State). waits_at (memory h) c.in-Act.act) (c.heap.ensures ∙ ap (λ (o : Outside). o.heap) c.outside.ensures)
     ∙ sym (waits_at-by o c.in-Act.act c.law.ensures.pairing (subst (λ (h : Head). HeadIn (IsOld ps) (Some h)) c.in-Act.is names))
     ∙ sym (waiting (shown o).memory (slice_get c.args.codes.now m.shared.version) (private_by ps m.private) (head_by ps m.head)
-    (rename_act (number_of ps) c.in-Act.act) stands (ap (λ (h : Head). head_by ps h) c.in-Act.is))
+    (rename_act (renamed ps) c.in-Act.act) stands (ap (λ (h : Head). head_by ps h) c.in-Act.is))
 
 pub returns-in-Trap : goal.returns-in-Trap
 returns-in-Trap c =

@@ -1,12 +1,12 @@
 use Rattle.std.proofs.Common.{◌∙◌}
 use Rattle.kt_mem.specs.Memory.{lock}
 use Rattle.kt_meaning.specs.Effects.{leaves}
-use Rattle.kt_heap.specs.ByNumber.{number_of}
+use Rattle.kt_mem.specs.Renaming.{rename_value, renamed}
 use Rattle.kt_heap.specs.Heap as heap
 use Rattle.kt_heap.specs.Heap.{memory}
 use Rattle.kt_heap.proofs.GivenLaws.{locks_given}
 use Rattle.kt_heap.proofs.NumberLaws.{locks_by_number}
-use Rattle.kt_exec.specs.Renaming.{IsOld, rename_value}
+use Rattle.kt_exec.specs.Renaming.{IsOld}
 use Rattle.kt_machine.specs.Outside.{pairs_in, shown}
 use Rattle.kt_machine.proofs.ByAddress.{acts-leave, done-in, holds-after, lock-goes, lock-waits}
 use Rattle.kt_machine.proofs.Memory.{kept-HasCharLiterals}
@@ -31,7 +31,7 @@ pub returns-else-waits-clause-outcome : goal.returns-else-waits-clause-outcome
 returns-else-waits-clause-outcome c =
     let o = c.args.self.now in
     lock-goes _ o c.self.view_is c.args.thread c.args.p c.waits.result c.law.ensures.pairing c.requires c.waits.ensures
-    (leaves (shown o) (lock (shown o).memory c.args.thread (rename_value (number_of (pairs_in o)) c.args.p))) c.if-waits.false
+    (leaves (shown o) (lock (shown o).memory c.args.thread (rename_value (renamed (pairs_in o)) c.args.p))) c.if-waits.false
     ∙ acts-leave (λ ps m p. lock m c.args.thread p) (λ m p. lock m c.args.thread p) (locks_by_number c.args.thread) _ o c.self.view_is c.lock.new.heap c.args.p
     c.lock.result c.done.result c.law.ensures.pairing c.requires c.lock.ensures.left c.lock.ensures.kept c.lock.ensures.pairs c.done.ensures
 

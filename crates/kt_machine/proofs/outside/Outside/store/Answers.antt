@@ -4,14 +4,14 @@ use Rattle.kt_mem.specs.Memory.{store}
 use Rattle.kt_meaning.specs.Effects.{leaves}
 use Rattle.kt_heap.specs.Heap as heap
 use Rattle.kt_heap.specs.Heap.{memory}
-use Rattle.kt_heap.specs.ByNumber.{number_of, value_by_number}
+use Rattle.kt_mem.specs.Renaming.{rename_value, renamed}
 use Rattle.kt_heap.proofs.GivenLaws.{stores_given}
 use Rattle.kt_heap.proofs.NumberLaws.{stores_by_number}
-use Rattle.kt_exec.specs.Renaming.{IsOld, ValueIn, rename_value}
+use Rattle.kt_exec.specs.Renaming.{IsOld, ValueIn}
 use Rattle.kt_machine.specs.Outside.{Outside, pairs_in, shown}
 use Rattle.kt_machine.proofs.ByAddress.{acts-leave, done-in, holds-after}
 use Rattle.kt_machine.proofs.Memory.{answer-left, answer-literals, kept-HasCharLiterals, store-literals}
-use Rattle.kt_machine.proofs.Names.{old-given, value-by}
+use Rattle.kt_machine.proofs.Names.{old-given}
 use Rattle.kt_machine.proofs.outside.Outside.store.Goals as goal
 
 pub invariant_of-self : goal.invariant_of-self
@@ -32,8 +32,7 @@ invariant_of-self c =
 pub returns-clause-leaves : goal.returns-clause-leaves
 returns-clause-leaves c =
     let o = c.args.self.now in
-    ap (λ (v : Value). leaves (shown o) (store (shown o).memory (rename_value (number_of (pairs_in o)) c.args.p) c.args.ty v)) (value-by (pairs_in o) c.args.v)
-    ∙ acts-leave (λ ps m p. store m p c.args.ty (value_by_number ps c.args.v)) (λ m p. store m p c.args.ty c.args.v) (stores_by_number c.args.ty c.args.v) _ o
+    acts-leave (λ ps m p. store m p c.args.ty (rename_value (renamed ps) c.args.v)) (λ m p. store m p c.args.ty c.args.v) (stores_by_number c.args.ty c.args.v) _ o
     c.self.view_is c.store.new.self c.args.p c.store.result c.done.result c.law.ensures.pairing c.requires.pointer
     (answer-left (store (memory c.self.inside.heap) c.args.p c.args.ty c.args.v) c.store.result (memory c.store.new.self) c.store.ensures.stored c.store.ensures.trap)
     c.store.ensures.kept c.store.ensures.pairs c.done.ensures
