@@ -302,9 +302,11 @@ module _ (P : ℕ → Type 0) (f g : ℕ → ℕ) (tells : Tells P f g) where
       (value-tells k.value (ap (λ (y : KeptLocal). y.value) first), kept-tells ks others)
 
   pub private-tells : (p : Private) → rename_private f p ≡ rename_private g p → PrivateIn P p
-  private-tells p e =
-      (frames-tell p.frames (ap (λ (q : Private). q.frames) e), values-tell p.operands (ap (λ (q : Private). q.operands) e),
-      kept-tells p.locals (ap (λ (q : Private). q.locals) e))
+  private-tells p e = (
+    frames-tell p.frames (ap (λ (q : Private). q.frames) e),
+    values-tell p.operands (ap (λ (q : Private). q.operands) e),
+    kept-tells p.locals (ap (λ (q : Private). q.locals) e),
+  )
 
   piece-tells : (x : Piece) → rename_piece f x ≡ rename_piece g x → PieceIn P x
   piece-tells (piece.Bytes bytes) e = tt
