@@ -14,7 +14,7 @@ use crate::formed::{
     prefixed, stepped, transformed,
 };
 use crate::leaf::{
-    character, end_of_file, named, null, number, old_symbol, size_of, string, worded,
+    character, end_of_file, named, new_object, null, number, old_symbol, size_of, string, worded,
 };
 use kt_calls::argument::Arguments;
 use kt_calls::builtin::builtin_named;
@@ -69,6 +69,7 @@ pub fn expression(env: &Environment<'_>, to: Use, e: &Expr) -> Answer
         Expr::SizeOf(at, ty) => size_of(env, *at, ty),
         Expr::Rule(at, word) => worded(env, *at, *word),
         Expr::OldSymbol(at, name) => old_symbol(env, *at, name),
+        Expr::New(at, _) => new_object(*at),
         Expr::Transform(at, a) => {
             let inside = a.get();
             let typed = expression(env, Use::Value, inside);

@@ -1,9 +1,10 @@
 //! Expressions without operands.
 
-ghost use Rattle.std.specs.Prelude.{pos, negsuc, Ok};
+ghost use Rattle.std.specs.Prelude.{pos, negsuc, Ok, Err};
 ghost use Rattle.kt_tree.specs.declared.expr.Constant.TheVariants as constant;
 ghost use Rattle.kt_tree.specs.Kinds.{int_type};
 ghost use Rattle.kt_typing.specs.Calls.{leaf};
+ghost use Rattle.kt_typing.specs.Faults.{bad_type};
 ghost use Rattle.kt_typing.specs.Rules.{number, constant_at, null_at, meant, size};
 ghost use Rattle.kt_typing.specs.Terms.{struct_place};
 ghost use Rattle.kt_operands.specs.Views.{environment_of, operand_of};
@@ -13,6 +14,7 @@ use crate::spelled::struct_place;
 use kt_grammar::{Name, RuleWord, TypeName};
 use kt_lex::Number;
 use kt_operands::environment::Environment;
+use kt_operands::operand::bad_type;
 use kt_operators::constant;
 use kt_operators::forms::Answer;
 
@@ -78,6 +80,14 @@ pub(crate) fn old_symbol(env: &Environment<'_>, at: u32, name: &Name) -> Answer
     ensures { Judges operand_of (leaf (meant at name.now.at ((environment_of env.now).old_symbol name.now.word))) result }
 {
     constant::meant(env, at, name.at, env.old_symbol(name.word.as_bytes()))
+}
+
+/// `$new`, which has no type as a part of an expression: its place in a rule's body is judged by what stands above.
+#[tactic(auto, using(kt_calls::proofs::Leaves::leaves))]
+pub(crate) fn new_object(at: u32) -> Answer
+    ensures { Judges operand_of (leaf (Err (bad_type at))) result }
+{
+    Err(bad_type(at))
 }
 
 /// `sizeof` of a type name.
