@@ -1,7 +1,9 @@
 -- Worked runs, followed by hand: threads made and joined, a lock that waits, a run that is stuck, closings with two threads, each kind
 -- of refusal, a chain of updates, conditions.
-use Rattle.std.specs.Prelude.{◌≡◌, ℕ, pos, Bool, true, false, List, [], ◌∷◌, codes, map, None, Some, refl}
+use Rattle.std.specs.Prelude.{◌≡◌, ℕ, pos, Bool, true, false, List, [], ◌∷◌, ◌++◌, codes, map, None, Some, refl}
 use Rattle.kt_types.specs.Layout.{layout, place_cells, struct_cells}
+use Rattle.kt_types.specs.Table.{Table, scalar_table}
+use Rattle.kt_types.specs.declared.kinds.Ty.TheVariants as ty
 use Rattle.kt_mem.specs.Memory.{put}
 use Rattle.kt_mem.specs.declared.memory.Name.TheVariants.{Glob}
 use Rattle.kt_mem.specs.declared.memory.Value.{Value}
@@ -15,7 +17,7 @@ use Rattle.kt_tree.specs.declared.expr.Operation.TheVariants as operation
 use Rattle.kt_tree.specs.declared.global.Init.TheVariants as init
 use Rattle.kt_tree.specs.Tree.{Constant', Operated, NoMore, More}
 use Rattle.kt_tree.specs.Version.{Program}
-use Rattle.xf_plan.specs.Bodies.{Actions, Done, Then, Assigned, Number}
+use Rattle.xf_plan.specs.Bodies.{Actions, Done, Then, Assigned, New, Number}
 use Rattle.xf_plan.specs.Plan.{GlobalRule, GlobalBody}
 use Rattle.xf_plan.specs.declared.place.Place.TheVariants.{GlobalCell}
 use Rattle.xf_plan.specs.declared.place.Why.TheVariants.{Rule}
@@ -162,6 +164,16 @@ abbrev rule_run : World Script
 rule_run = run (parking (Point 1 ∷ []))
     (with_new same_new (record { ty = 1; count = 1; view = view.One; init = init.Zero; source = GlobalBody None dividing } ∷ [])) (0 ∷ 1 ∷ 0 ∷ [])
 
+-- a global for which a rule makes an object of so many `int`s
+abbrev with_pointer : Table
+with_pointer = record scalar_table { types = scalar_table.types ++ ty.Ptr 1 ∷ [] }
+
+abbrev making : ℕ → GlobalRule
+making n = record { ty = 4; count = 1; view = view.Whole; init = init.Null; source = GlobalBody None (Then (Assigned (New 1 n)) Done) }
+
+abbrev size_run : ℕ → World Script
+size_run n = run (parking (Point 1 ∷ [])) (job (same_new ∷ same_new ∷ []) (record (plan (making n ∷ [])) { new = with_pointer } ∷ []) (1 ∷ [])) (0 ∷ 1 ∷ 0 ∷ [])
+
 pub record RefusalRow : Type 0 where
   pub held : held_run.shared.marks ≡ Ask 1 1 0 ∷ Close 4 1 closed.Held ∷ []
   -- the threads go on past their points, in the old version
@@ -172,10 +184,13 @@ pub record RefusalRow : Type 0 where
   pub narrower : (entry_run (codes "w") 0).shared.marks ≡ Ask 1 1 0 ∷ Close 3 1 (closed.Entry 1) ∷ []
   pub wider : (entry_run (codes "w") 2).shared.marks ≡ Ask 1 1 0 ∷ Close 3 1 (closed.Ok 0) ∷ []
   pub rule : rule_run.shared.marks ≡ Ask 1 1 0 ∷ Close 3 1 (closed.At (record { place = GlobalCell 0 0; why = Rule trap.Zero })) ∷ []
+  -- an object has at most 65,536 cells
+  pub size : (size_run 65537).shared.marks ≡ Ask 1 1 0 ∷ Close 3 1 closed.Size ∷ []
+  pub fits : (size_run 65536).shared.marks ≡ Ask 1 1 0 ∷ Close 3 1 (closed.Ok 0) ∷ []
 
 pub refusal_row : RefusalRow
 unfolding world_from layout place_cells struct_cells put
-refusal_row = record { held = refl; going_on = refl; version = refl; point = refl; name = refl; narrower = refl; wider = refl; rule = refl }
+refusal_row = record { held = refl; going_on = refl; version = refl; point = refl; name = refl; narrower = refl; wider = refl; rule = refl; size = refl; fits = refl }
 
 -- ---- two updates in a row, of which the second is asked for as the first one ends
 
