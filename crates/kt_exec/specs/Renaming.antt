@@ -11,7 +11,7 @@ use Rattle.kt_mem.specs.declared.steps.Piece.TheVariants as piece
 use Rattle.kt_mem.specs.declared.steps.Reply.{Reply}
 use Rattle.kt_mem.specs.declared.steps.Reply.TheVariants.{Done, Got, Trapped}
 use Rattle.kt_mem.specs.declared.thread.KeptLocal.{KeptLocal}
-use Rattle.kt_mem.specs.Renaming.{Pairs, rename_name, rename_value, rename_values, renamed}
+use Rattle.kt_mem.specs.Renaming.{Pairs, rename_value, rename_values, renamed}
 use Rattle.kt_meaning.specs.Steps.{after_reply}
 use Rattle.kt_code.specs.Code.{Code}
 use Rattle.kt_code.specs.Machine.{step}

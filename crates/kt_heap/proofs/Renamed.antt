@@ -14,7 +14,7 @@ use Rattle.kt_mem.specs.declared.steps.Trap.TheVariants as trap
 use Rattle.kt_mem.specs.Values.{ty_eq, defined}
 use Rattle.kt_mem.specs.Memory.{Memory, Object, Cell, cell_value, value_in, value_at, object_with, fresh_cell, repeated, fresh_object}
 use Rattle.kt_heap.specs.Heap.{Paired, IsNew, IsPairing}
-use Rattle.kt_mem.specs.Renaming.{Pairs, rename_name, rename_value}
+use Rattle.kt_mem.specs.Renaming.{Pairs, rename_name, rename_value, renamed}
 use Rattle.kt_heap.specs.ByNumber.{cell_by_number, object_by_number, object_named, by_number, answer_by, WasGiven}
 use Rattle.kt_heap.proofs.Pairs.{number_there, address_there, number_pushed}
 

@@ -14,7 +14,7 @@ use Rattle.kt_mem.specs.declared.memory.Name.TheVariants.{Glob, Lit, Heap}
 use Rattle.kt_mem.specs.declared.memory.Value.{Value}
 use Rattle.kt_mem.specs.declared.memory.Value.TheVariants.{Num, Null, Ptr, Free, Held, Undef}
 use Rattle.kt_mem.specs.Memory.{Memory, Object, Cell, no_objects, put, repeated, zero_value}
-use Rattle.kt_mem.specs.Renaming.{Pairs, rename_value}
+use Rattle.kt_mem.specs.Renaming.{Pairs, rename_value, renamed}
 use Rattle.kt_heap.specs.ByNumber.{cell_by_number, object_by_number, object_named, by_number, WasGiven, HoldsGiven}
 use Rattle.kt_heap.specs.Heap.{with_object}
 use Rattle.kt_tree.specs.declared.global.GlobalDecl.{GlobalDecl}

@@ -16,7 +16,7 @@ use Rattle.kt_meaning.specs.Laws.{IsShared}
 use Rattle.kt_meaning.specs.Values.{is_of}
 use Rattle.kt_heap.specs.Heap as heap
 use Rattle.kt_heap.specs.Heap.{IsPairing}
-use Rattle.kt_mem.specs.Renaming.{Pairs, rename_value}
+use Rattle.kt_mem.specs.Renaming.{Pairs, rename_value, renamed}
 use Rattle.kt_heap.specs.ByNumber.{by_number, answer_by}
 use Rattle.kt_heap.proofs.NumberLaws.{loads_by_number}
 use Rattle.kt_lone.specs.Typed.{IsIntIfSome}

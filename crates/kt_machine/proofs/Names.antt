@@ -12,7 +12,7 @@ use Rattle.kt_code.specs.declared.frame.Frame.{Frame}
 use Rattle.kt_code.specs.declared.private.Private.{Private}
 use Rattle.kt_heap.specs.Heap as heap
 use Rattle.kt_heap.specs.Heap.{Paired}
-use Rattle.kt_mem.specs.Renaming.{Pairs, rename_value, renamed}
+use Rattle.kt_mem.specs.Renaming.{Pairs, renamed}
 use Rattle.kt_heap.specs.ByNumber.{WasGiven}
 use Rattle.kt_heap.proofs.Pairs.{paired_first, paired_rest, number_pushed}
 use Rattle.kt_exec.specs.Renaming.{AreOneToOne, IsNew, IsOld, ValueIn, ValuesIn, FramesIn, KeptIn, PrivateIn, NameIn}

@@ -25,7 +25,7 @@ use Rattle.kt_tree.specs.Tree.{Expression, Constant', LocalRead, LocalSet, Local
 use Rattle.kt_meaning.specs.Operations.{apply_operation, arithmetic, at_type, of_one, of_two, element_sum, field_place, width}
 use Rattle.kt_meaning.specs.Thread.{defined_if}
 use Rattle.kt_heap.specs.Heap.{Paired, IsPairing}
-use Rattle.kt_mem.specs.Renaming.{Pairs, rename_name, rename_value}
+use Rattle.kt_mem.specs.Renaming.{Pairs, rename_name, rename_value, renamed}
 use Rattle.kt_heap.specs.ByNumber.{by_number, answer_by, WasGiven, HoldsGiven}
 use Rattle.kt_heap.proofs.NumberLaws.{loads_by_number}
 use Rattle.kt_heap.proofs.GivenLaws.{loads_given}

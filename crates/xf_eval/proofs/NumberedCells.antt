@@ -15,7 +15,7 @@ use Rattle.kt_mem.specs.declared.memory.Value.TheVariants.{Num, Null, Ptr, Free,
 use Rattle.kt_mem.specs.declared.steps.Trap.{Trap}
 use Rattle.kt_mem.specs.Memory.{Memory, Object, Cell, zero_value}
 use Rattle.kt_heap.specs.Heap.{IsPairing}
-use Rattle.kt_mem.specs.Renaming.{Pairs, rename_name, rename_value}
+use Rattle.kt_mem.specs.Renaming.{Pairs, rename_name, rename_value, renamed}
 use Rattle.kt_heap.specs.ByNumber.{cell_by_number, object_by_number, by_number, WasGiven, HoldsGiven}
 use Rattle.kt_heap.proofs.Renamed.{NameGiven, name_given, object_there}
 use Rattle.xf_plan.specs.Bodies.{Actions}

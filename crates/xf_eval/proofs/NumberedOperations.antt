@@ -15,7 +15,7 @@ use Rattle.kt_mem.specs.Elements.{element_after, element_before, whole_elements,
 use Rattle.kt_mem.specs.Values.{name_eq, int_eq, defined}
 use Rattle.kt_meaning.specs.Operations.{element_sum}
 use Rattle.kt_meaning.specs.Thread.{defined_if}
-use Rattle.kt_mem.specs.Renaming.{Pairs, rename_name, rename_value}
+use Rattle.kt_mem.specs.Renaming.{Pairs, rename_name, rename_value, renamed}
 
 -- of two values the names are one where they are by number
 pub record Keeps (f : Pairs) (a b : Value) : Type 0 where

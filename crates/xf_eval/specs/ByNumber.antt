@@ -7,7 +7,7 @@ use Rattle.kt_mem.specs.declared.memory.Value.TheVariants.{Ptr}
 use Rattle.kt_mem.specs.declared.steps.Trap.{Trap}
 use Rattle.kt_mem.specs.Memory.{Memory}
 use Rattle.kt_heap.specs.Heap.{IsPairing}
-use Rattle.kt_mem.specs.Renaming.{Pairs, rename_name, rename_value}
+use Rattle.kt_mem.specs.Renaming.{Pairs, rename_name, rename_value, renamed}
 use Rattle.kt_heap.specs.ByNumber.{by_number, answer_by, WasGiven, HoldsGiven}
 use Rattle.xf_plan.specs.Plan.{Plan}
 use Rattle.xf_plan.specs.declared.value.PreValue.{PreValue}
