@@ -24,7 +24,6 @@ pub struct Outside {
 
 impl Model for Outside {
     ghost use Rattle.std.specs.Prelude.{◌≤◌, drop, length};
-    ghost use Rattle.kt_mem.specs.Renaming.{rename_value, renamed};
     ghost use Rattle.kt_heap.specs.ByNumber.{HoldsGiven};
     ghost use Rattle.kt_heap.specs.Heap.{memory, given as given_out};
     ghost use Rattle.kt_machine.specs.Outside.{Outside, HasCharLiterals};
@@ -44,6 +43,7 @@ impl Outside {
     ghost use Rattle.kt_meaning.specs.Effects as plain;
     ghost use Rattle.kt_mem.specs.Memory as mem;
     ghost use Rattle.kt_types.specs.Layout.{cells, layout};
+    ghost use Rattle.kt_mem.specs.Renaming.{rename_value, renamed};
     ghost use Rattle.kt_exec.specs.Renaming.{IsOld, PiecesIn, ReplyIn, ValueIn, rename_pieces};
     ghost use Rattle.kt_machine.specs.ByNumber.{reply_by, Grows};
     ghost use Rattle.kt_machine.specs.Outside.{done, given, outcome_of, pairs_in, shown, AreNumbers, HasCharLiterals, OutcomeIn};

@@ -8,19 +8,23 @@ use Rattle.std.proofs.lemmas.Bool.Decides.{Decides-eqb}
 use Rattle.std.proofs.lemmas.Option.{none-some, same_Some}
 use Rattle.kt_grammar.specs.declared.tree.Base.{Base}
 use Rattle.kt_grammar.specs.declared.tree.Base.TheVariants as base
-use Rattle.kt_syntax.specs.Tree.{External}
+use Rattle.kt_syntax.specs.Tree.{External, StructMentioned, StructDefined, GlobalsDeclared, FunctionDeclared}
 use Rattle.kt_types.specs.declared.kinds.Ty.{Ty}
 use Rattle.kt_types.specs.declared.kinds.Ty.TheVariants as ty
-use Rattle.kt_types.specs.Table.{Definition}
+use Rattle.kt_types.specs.declared.kinds.FieldDecl.{FieldDecl}
+use Rattle.kt_types.specs.Layout.{layout}
+use Rattle.kt_types.specs.Table.{Definition, Table, with_definition}
 use Rattle.kt_tree.specs.declared.expr.Constant.TheVariants as constant
 use Rattle.kt_tree.specs.Kinds.{Scope, is_integer_type, pointee_of, pointee, is_pointer, is_scalar, is_same, points_to, is_constant}
 use Rattle.kt_tree.specs.Tree.{Constant'}
 use Rattle.kt_tree.specs.Typed.{Of, if_so}
 use Rattle.kt_typing.specs.Sound.{HasType, IsSoundAs, IsSoundMeaning, IsRight}
-use Rattle.kt_program.specs.Gathered.{OuterGlobal, global_name, global_type, is_array, struct_names, types_of}
-use Rattle.kt_program.specs.Mentioned.{Spelling, Starred, Arrayed, spellings_of, stars_of}
+use Rattle.kt_program.specs.Gathered.{OuterGlobal, global_name, global_type, globals_of, is_array}
+use Rattle.kt_program.specs.FileTable.{can_define, can_repeat, field_of, start, table_of, with_external, with_externals, with_spelling, with_spellings, with_struct}
+use Rattle.kt_program.specs.Mentioned.{Spelling, Starred, Arrayed, external_spellings, stars_of}
 use Rattle.kt_program.specs.Outside.{Whole, whole, place_of, standing_of, global_meaning, function_meaning, outer_meaning, scope, environment}
-use Rattle.kt_program.specs.Types.{has_by, same_type, base_type, spelled, place_of_type, with_type, starred_place, place_in, with_starred, with_spelling, with_spellings, scalars}
+use Rattle.kt_program.specs.Types.{has_by, number_of_struct, same_type, base_type, spelled, place_of_type, with_type, starred_place, place_in, with_starred, scalars}
+use Rattle.kt_program.specs.Views.{all_fields}
 
 -- ---- lists
 
@@ -76,16 +80,39 @@ starred-starts : (stars : ℕ) (types : List Ty) (t : Ty) → Starts types → S
 starred-starts zero types t h = type-starts types t h
 starred-starts (suc n) types t h = type-starts (with_starred types t n) (ty.Ptr (starred_place (with_starred types t n) t n)) (starred-starts n types t h)
 
-spelling-starts : (structs : List (List ℕ)) (types : List Ty) (u : Spelling) → Starts types → Starts (with_spelling structs types u)
-spelling-starts structs types (Starred b stars) h = starred-starts stars types (base_type structs b) h
-spelling-starts structs types (Arrayed b stars n) h = type-starts types (ty.Array (starred_place types (base_type structs b) stars) n) h
+spelling-starts : (t : Table) (u : Spelling) → Starts t.types → Starts (with_spelling t u).types
+spelling-starts t (Starred b stars) h = starred-starts stars t.types (base_type t.structs b) h
+spelling-starts t (Arrayed b stars n) h = by (can_repeat n (layout t (starred_place t.types (base_type t.structs b) stars)))
+  where
+    by : (c : Bool) → Starts (if c then record t { types = with_type t.types (ty.Array (starred_place t.types (base_type t.structs b) stars) n) } else t).types
+    by true = type-starts t.types (ty.Array (starred_place t.types (base_type t.structs b) stars) n) h
+    by false = h
 
-spellings-start : (structs : List (List ℕ)) (us : List Spelling) (types : List Ty) → Starts types → Starts (with_spellings structs types us)
-spellings-start structs [] types h = h
-spellings-start structs (u ∷ us) types h = spellings-start structs us (with_spelling structs types u) (spelling-starts structs types u h)
+spellings-start : (us : List Spelling) (t : Table) → Starts t.types → Starts (with_spellings t us).types
+spellings-start [] t h = h
+spellings-start (u ∷ us) t h = spellings-start us (with_spelling t u) (spelling-starts t u h)
 
-types-start : (xs : List External) → Starts (types_of xs)
-types-start xs = spellings-start (struct_names xs) (spellings_of xs) scalars ([], refl)
+struct-starts : (t : Table) (s : ℕ) (fields : List FieldDecl) → Starts t.types → Starts (with_struct t s fields).types
+struct-starts t s fields h = by (can_define t s fields)
+  where
+    by : (c : Bool) → Starts (if c then with_definition t s fields else t).types
+    by true = h
+    by false = h
+
+external-starts : (globals : List OuterGlobal) (t : Table) (x : External) → Starts t.types → Starts (with_external globals t x).types
+external-starts globals t (StructDefined n fs) h =
+    let u = with_spellings t (external_spellings (StructDefined n fs)) in
+    struct-starts u (number_of_struct u.structs n.word) (map (field_of u globals (all_fields fs)) (all_fields fs)) (spellings-start (external_spellings (StructDefined n fs)) t h)
+external-starts globals t (StructMentioned n) h = spellings-start (external_spellings (StructMentioned n)) t h
+external-starts globals t (GlobalsDeclared b gs) h = spellings-start (external_spellings (GlobalsDeclared b gs)) t h
+external-starts globals t (FunctionDeclared f) h = spellings-start (external_spellings (FunctionDeclared f)) t h
+
+externals-start : (globals : List OuterGlobal) (xs : List External) (t : Table) → Starts t.types → Starts (with_externals globals t xs).types
+externals-start globals [] t h = h
+externals-start globals (x ∷ xs) t h = externals-start globals xs (with_external globals t x) (external-starts globals t x h)
+
+types-start : (xs : List External) → Starts (table_of xs).types
+types-start xs = externals-start (globals_of xs) xs (start xs) ([], refl)
 
 -- ---- the type of a declarator is no array
 

@@ -22,8 +22,8 @@ use Rattle.kt_program.specs.Judgments.{Judgment, Held, Judgments, NoMore, And}
 use Rattle.kt_program.specs.Made.{joined}
 use Rattle.kt_program.specs.Outside.{Whole, whole, environment, place_of}
 use Rattle.kt_program.specs.Statements.{absent}
-use Rattle.kt_program.specs.Structs.{all_fields, struct}
-use Rattle.kt_program.specs.Views.{Field, field_view}
+use Rattle.kt_program.specs.Structs.{struct}
+use Rattle.kt_program.specs.Views.{Field, all_fields, field_view}
 
 -- what stands before a place of a file: structs, the latest first, with their names; globals and their cells; functions
 pub record Before : Type 0 where

@@ -6,18 +6,14 @@ use Rattle.kt_syntax.specs.declared.tree.Pointer.{Pointer}
 use Rattle.kt_syntax.specs.declared.tree.GlobalDeclarator.{GlobalDeclarator}
 use Rattle.kt_syntax.specs.declared.tree.Parameter.{Parameter}
 use Rattle.kt_syntax.specs.Tree.{Declaration, Start, Declares, Statement, Declared as DeclaredLocals, Compound, Conditional, Alternative, Looped, Repeated, Counted, Statements, Nothing as NoStatements, More as Then, Definition, Routine, External, GlobalsDeclared, FunctionDeclared}
-use Rattle.kt_types.specs.declared.kinds.Ty.{Ty}
-use Rattle.kt_program.specs.Mentioned.{stars_of, result_stars, where_there, spellings_of, structs_of}
-use Rattle.kt_program.specs.Types.{Spelled, spelled, same_spelled, with_names, with_spellings, scalars}
+use Rattle.kt_program.specs.Mentioned.{stars_of, result_stars, where_there, structs_of}
+use Rattle.kt_program.specs.Types.{Spelled, spelled, same_spelled, with_names}
 
 -- ---- types
 
--- the names of the structs, and the types
+-- the names of the structs
 abbrev pub struct_names : List External → List (List ℕ)
 struct_names xs = with_names [] (structs_of xs)
-
-abbrev pub types_of : List External → List Ty
-types_of xs = with_spellings (struct_names xs) scalars (spellings_of xs)
 
 abbrev pub declared_type : List (List ℕ) → Base → Option Pointer → Spelled
 declared_type structs b p = spelled structs b (stars_of p)

@@ -1,5 +1,6 @@
 pub mod Declarators
 pub mod FileRows
+pub mod FileTable
 pub mod Files
 pub mod Fragments
 pub mod Functions

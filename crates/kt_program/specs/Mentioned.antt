@@ -1,5 +1,5 @@
 -- Which types and structs a file names, in the order of the file.
-use Rattle.std.specs.Prelude.{ℕ, ◌+◌, nat_le, List, [], ◌∷◌, ◌++◌, flat_map, codes, Option, Some, None, if◌then◌else◌}
+use Rattle.std.specs.Prelude.{ℕ, ◌+◌, List, [], ◌∷◌, ◌++◌, flat_map, codes, Option, Some, None, if◌then◌else◌}
 use Rattle.std.specs.Str.{bytes_eq}
 use Rattle.kt_grammar.specs.declared.tree.Base.{Base}
 use Rattle.kt_grammar.specs.declared.tree.Base.TheVariants as base
@@ -96,10 +96,10 @@ abbrev mutual
   statements_spellings NoStatements = []
   statements_spellings (Then s rest) = statement_spellings s ++ statements_spellings rest
 
--- A field's type, or that of its elements, with a pointer to it; and then the array. (None has more than 65,536 elements.)
+-- a field's type, or that of its elements, with a pointer to it; and then the array
 abbrev pub counted_spellings : Base → ℕ → Option Number → List Spelling
 counted_spellings b stars None = Starred b (stars + 1) ∷ []
-counted_spellings b stars (Some n) = Starred b (stars + 1) ∷ (if nat_le n.value 65536 then Arrayed b stars n.value ∷ [] else [])
+counted_spellings b stars (Some n) = Starred b (stars + 1) ∷ Arrayed b stars n.value ∷ []
 
 abbrev pub field_spellings : Base → Declarator → List Spelling
 field_spellings b d = counted_spellings b (stars_of d.pointer) d.count

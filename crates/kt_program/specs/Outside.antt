@@ -14,8 +14,9 @@ use Rattle.kt_typing.specs.declared.standing.Standing.{Standing}
 use Rattle.kt_typing.specs.declared.standing.Standing.TheVariants as standing
 use Rattle.kt_typing.specs.Environment.{Environment, Meaning, Missing, Stands, Routine as Function}
 use Rattle.kt_typing.specs.Faults.{incomplete}
+use Rattle.kt_program.specs.FileTable.{table_of}
 use Rattle.kt_program.specs.Types.{same_type, place_in, or_first}
-use Rattle.kt_program.specs.Gathered.{OuterGlobal, struct_names, types_of, globals_of, global_name, global_type, is_array, defined_of, parameter_types, result_type}
+use Rattle.kt_program.specs.Gathered.{OuterGlobal, struct_names, globals_of, global_name, global_type, is_array, defined_of, parameter_types, result_type}
 use Rattle.kt_program.specs.Strings.{written_of, literal_places, literal_number, update_names, point_names}
 
 -- what the whole text gives: its types, structs, literals and names of points, its globals, and the functions that it defines
@@ -30,7 +31,7 @@ pub record Whole : Type 0 where
 
 abbrev pub whole : List External → Whole
 whole xs = record {
-  types = types_of xs;
+  types = (table_of xs).types;
   structs = struct_names xs;
   globals = globals_of xs;
   defined = defined_of xs;

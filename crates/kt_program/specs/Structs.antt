@@ -21,14 +21,7 @@ use Rattle.kt_program.specs.Mentioned.{stars_of}
 use Rattle.kt_program.specs.Made.{joined}
 use Rattle.kt_program.specs.Scopes.{contains}
 use Rattle.kt_program.specs.Statements.{under, absent}
-use Rattle.kt_program.specs.Views.{Field, is_count_field}
-
-abbrev pub fields_of_base : Base → List Declarator → List Field
-fields_of_base b ds = map (λ d. record { base = b; declarator = d }) ds
-
-abbrev pub all_fields : List Fields → List Field
-all_fields [] = []
-all_fields (x ∷ rest) = fields_of_base x.base x.declarators ++ all_fields rest
+use Rattle.kt_program.specs.Views.{Field, all_fields, is_count_field}
 
 -- an array has 1 to 65,536 elements
 abbrev pub is_array_count : Option Number → Bool

@@ -7,7 +7,6 @@ use Rattle.kt_types.specs.declared.kinds.Ty.{Ty}
 use Rattle.kt_types.specs.declared.kinds.Ty.TheVariants as ty
 use Rattle.kt_grammar.specs.declared.tree.Base.{Base}
 use Rattle.kt_grammar.specs.declared.tree.Base.TheVariants as base
-use Rattle.kt_program.specs.Mentioned.{Spelling, Starred, Arrayed}
 
 abbrev pub or_first : Option ℕ → ℕ
 or_first None = 0
@@ -86,14 +85,6 @@ place_in types t = starred_place types t.base t.stars
 abbrev pub with_starred : List Ty → Ty → ℕ → List Ty
 with_starred types t zero = with_type types t
 with_starred types t (suc n) = let before = with_starred types t n in with_type before (ty.Ptr (starred_place before t n))
-
-abbrev pub with_spelling : List (List ℕ) → List Ty → Spelling → List Ty
-with_spelling structs types (Starred b stars) = with_starred types (base_type structs b) stars
-with_spelling structs types (Arrayed b stars n) = with_type types (ty.Array (starred_place types (base_type structs b) stars) n)
-
-abbrev pub with_spellings : List (List ℕ) → List Ty → List Spelling → List Ty
-with_spellings structs types [] = types
-with_spellings structs types (u ∷ rest) = with_spellings structs (with_spelling structs types u) rest
 
 -- the scalar types at the places 0 to 3
 abbrev pub scalars : List Ty

@@ -1,5 +1,5 @@
 -- The views of pointers: how much each points to, as its declaration says.
-use Rattle.std.specs.Prelude.{ℕ, ◌==◌, ◌&&◌, not, Bool, true, false, List, Option, Some, None, if◌then◌else◌}
+use Rattle.std.specs.Prelude.{ℕ, ◌==◌, ◌&&◌, not, Bool, true, false, List, [], ◌∷◌, ◌++◌, map, Option, Some, None, if◌then◌else◌}
 use Rattle.std.specs.List.{position_from}
 use Rattle.std.specs.Option.{is_some}
 use Rattle.std.specs.Str.{bytes_eq}
@@ -7,6 +7,7 @@ use Rattle.kt_grammar.specs.declared.tree.Base.{Base}
 use Rattle.kt_grammar.specs.declared.tree.Base.TheVariants as base
 use Rattle.kt_syntax.specs.declared.tree.Declarator.{Declarator}
 use Rattle.kt_syntax.specs.declared.tree.Extent.{Extent}
+use Rattle.kt_syntax.specs.declared.tree.Fields.{Fields}
 use Rattle.kt_syntax.specs.declared.tree.Extent.TheVariants as extent
 use Rattle.kt_syntax.specs.declared.tree.Pointer.{Pointer}
 use Rattle.kt_types.specs.declared.kinds.View.{View}
@@ -40,6 +41,13 @@ view_of globals b p = view_by globals b (stars_of p) (extent_of p)
 pub record Field : Type 0 where
   pub base : Base
   pub declarator : Declarator
+
+abbrev pub fields_of_base : Base → List Declarator → List Field
+fields_of_base b ds = map (λ d. record { base = b; declarator = d }) ds
+
+abbrev pub all_fields : List Fields → List Field
+all_fields [] = []
+all_fields (x ∷ rest) = fields_of_base x.base x.declarators ++ all_fields rest
 
 abbrev pub is_integer_base : Base → Bool
 is_integer_base base.Char = true
