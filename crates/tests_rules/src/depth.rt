@@ -38,7 +38,7 @@ fn told(alloc: Global, row: &str, more: usize) -> Result<(String, usize), AllocE
     let (closing, rest) = column(rest);
     let (last, rest) = column(rest);
     let (count, at) = column(rest);
-    let count = count.parse::<usize>().unwrap_or(0) + more;
+    let count = count.parse::<usize>().unwrap_or(0).saturating_add(more);
     let mut text = String::from_str(alloc, first)?;
     push_times(&mut text, opening, count)?;
     text.push_str(inside)?;
