@@ -2,10 +2,9 @@
 -- 9899:2011, 6.2.5 and 6.7.2.1). What no table can have is left out: an array whose element has no cells there, or of no or too many
 -- elements, and a definition of a struct that is defined, that names a field twice, or whose fields have no cells there or too many.
 -- A file with one of these has a fault at it, and what it could change stands behind.
-use Rattle.std.specs.Prelude.{ℕ, ◌*◌, ◌&&◌, Bool, true, false, not, nat_le, List, [], ◌∷◌, length, map, flat_map, Option, Some, None, if◌then◌else◌}
+use Rattle.std.specs.Prelude.{ℕ, ◌*◌, ◌&&◌, Bool, true, false, not, nat_le, List, [], ◌∷◌, length, map, Option, Some, None, if◌then◌else◌}
 use Rattle.std.specs.Option.{is_some}
 use Rattle.kt_lex.specs.declared.number.Number.{Number}
-use Rattle.kt_syntax.specs.declared.tree.Fields.{Fields}
 use Rattle.kt_syntax.specs.Tree.{External, StructDefined}
 use Rattle.kt_types.specs.declared.kinds.FieldDecl.{FieldDecl}
 use Rattle.kt_types.specs.declared.kinds.Ty.{Ty}
@@ -14,7 +13,7 @@ use Rattle.kt_types.specs.Layout.{cell_limit, joined, layout}
 use Rattle.kt_types.specs.Table.{Table, fields_of, with_definition}
 use Rattle.kt_program.specs.Gathered.{OuterGlobal, declared_type, globals_of, struct_names}
 use Rattle.kt_program.specs.Mentioned.{Spelling, Starred, Arrayed, external_spellings}
-use Rattle.kt_program.specs.Types.{base_type, has_by, number_of_struct, place_in, place_of_type, scalars, starred_place, with_starred, with_type}
+use Rattle.kt_program.specs.Types.{base_type, number_of_struct, place_in, place_of_type, scalars, starred_place, with_starred, with_type}
 use Rattle.kt_program.specs.Scopes.{contains}
 use Rattle.kt_program.specs.Views.{Field, all_fields, field_view}
 

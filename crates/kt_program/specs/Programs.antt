@@ -12,13 +12,14 @@ use Rattle.kt_tree.specs.declared.global.Init.TheVariants as init
 use Rattle.kt_tree.specs.Tree.{Statement, Function}
 use Rattle.kt_tree.specs.Version.{Program}
 use Rattle.kt_typing.specs.declared.fault.Fault.{Fault}
-use Rattle.kt_program.specs.Files.{nothing, behind_all, file}
+use Rattle.kt_program.specs.Files.{file}
+use Rattle.kt_program.specs.FileTable.{table_of}
 use Rattle.kt_program.specs.Gathered.{OuterGlobal, DeclaredLocal, global_name, global_type, is_array, locals_of, result_type, is_noted}
 use Rattle.kt_program.specs.Globals.{negative}
 use Rattle.kt_program.specs.Judgments.{made, IsWrong}
 use Rattle.kt_program.specs.Made.{Made, lines_of}
 use Rattle.kt_program.specs.Mentioned.{stars_of}
-use Rattle.kt_program.specs.Outside.{Whole, whole, table}
+use Rattle.kt_program.specs.Outside.{Whole, whole}
 use Rattle.kt_program.specs.Strings.{literal_number, literals_in, written_of}
 use Rattle.kt_program.specs.Structs.{count_of}
 use Rattle.kt_program.specs.Types.{place_in}
@@ -79,7 +80,7 @@ abbrev pub program_of : List External → Made → Program
 program_of xs bodies =
     let w = whole xs in
     record {
-      types = table w (behind_all w nothing xs).structs;
+      types = table_of xs;
       globals = map (global_of w) w.globals;
       literals = literals_in (written_of xs);
       functions = functions_of w w.defined (lines_of bodies);

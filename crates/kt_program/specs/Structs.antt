@@ -1,11 +1,9 @@
 -- What is judged of the definition of a struct (ISO/IEC 9899:2011, 6.7.2.1).
-use Rattle.std.specs.Prelude.{ℕ, ◌+◌, ◌*◌, Bool, true, false, ◌&&◌, not, nat_le, List, [], ◌∷◌, ◌++◌, map, length, Option, Some, None}
+use Rattle.std.specs.Prelude.{ℕ, ◌+◌, ◌*◌, Bool, true, false, ◌&&◌, not, nat_le, List, [], ◌∷◌, map, length, Option, Some, None}
 use Rattle.std.specs.List.{list_any}
 use Rattle.kt_lex.specs.declared.number.Number.{Number}
 use Rattle.kt_types.specs.declared.kinds.Ty.{Ty}
-use Rattle.kt_grammar.specs.declared.tree.Base.{Base}
 use Rattle.kt_grammar.specs.declared.tree.Name.{Name}
-use Rattle.kt_syntax.specs.declared.tree.Declarator.{Declarator}
 use Rattle.kt_syntax.specs.declared.tree.Extent.{Extent}
 use Rattle.kt_syntax.specs.declared.tree.Extent.TheVariants as extent
 use Rattle.kt_syntax.specs.declared.tree.Fields.{Fields}
