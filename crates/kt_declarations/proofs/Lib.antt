@@ -1,0 +1,11 @@
+mod Declared
+mod Earlier
+mod Faultless
+mod Kept
+mod Mapped
+mod Places
+mod Right
+mod Behind
+mod Spelled
+mod Struct
+mod Within

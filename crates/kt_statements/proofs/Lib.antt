@@ -1,0 +1,10 @@
+mod Arms
+mod Meanings
+mod Declarators
+mod Entries
+mod Functions
+mod Judged
+mod Lines
+mod Places
+mod Shown
+mod Sizes
