@@ -10,12 +10,13 @@ ghost use Rattle.kt_statements.specs.Judged.{Judges, JudgesLines, lines_made};
 ghost use Rattle.kt_statements.specs.Scopes.{body_of, place_of, meaning_in, Fits};
 
 use crate::answer::{Lines, under};
-use crate::declarator::{extent_fault, held_fault, parameter_base_fault};
+use crate::declarator::parameter_base_fault;
 use crate::local::{appended, note_fault, twice_fault};
 use crate::scopes::{Body, Scopes};
 use crate::statement::entries;
 use crate::whole;
 use indexmap::IndexMap;
+use kt_declarations::declarator::{extent_fault, held_fault};
 use kt_operands::meaning::Meaning;
 use kt_syntax::{Function, Parameter};
 use sqlite_items::Items;

@@ -11,12 +11,14 @@ ghost use Rattle.kt_statements.specs.Judged.{Judges, JudgesLines, tree_made, lin
 ghost use Rattle.kt_statements.specs.Scopes.{body_of, place_of, Fits};
 
 use crate::answer::{Lines, both, under};
-use crate::declarator::{declarator_place, extent_fault, held_fault, locals_base_fault, where_not};
+use crate::declarator::locals_base_fault;
 use crate::line;
 use crate::part::conversion;
 use crate::scopes::{Body, Scopes};
 use crate::whole::set_local;
 use kt_calls::builtin::builtin_named;
+use kt_declarations::declarator::{declarator_place, extent_fault, held_fault};
+use kt_declarations::first::where_not;
 use kt_grammar::{Base, Expr, Name};
 use kt_syntax::{LocalDeclarator, Locals};
 use kt_tree::Stmt;
@@ -31,7 +33,7 @@ pub(crate) fn twice_fault(scopes: &Scopes<'_>, name: &Name) -> Option<Fault>
 {
     let word = name.word.as_bytes();
     let holds = builtin_named(word).is_none() && !scopes.has_own(word);
-    where_not(holds, Kind::Twice, name.at)
+    where_not(holds, name.at, Kind::Twice)
 }
 
 // Whether the name may be a local's: with `E_NOTELOCALS` it stands once in the function.
@@ -50,7 +52,7 @@ pub(crate) fn note_fault(body: &Body<'_>, scopes: &Scopes<'_>, name: &Name) -> O
     ensures { result ≡ note_fault (body_of body.now) (place_of scopes.now) name.now.word name.now.at }
 {
     let holds = is_noted_once(body, scopes, name.word.as_bytes());
-    where_not(holds, Kind::Note, name.at)
+    where_not(holds, name.at, Kind::Note)
 }
 
 // The initial value of a local, or that it has none.

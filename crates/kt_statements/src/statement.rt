@@ -14,11 +14,11 @@ ghost use Rattle.kt_statements.specs.Judged.{Judges, JudgesLines, tree_made, lin
 ghost use Rattle.kt_statements.specs.Scopes.{body_of, place_of, behind_entries, Fits};
 
 use crate::answer::{Lines, Tree, under};
-use crate::declarator::where_not;
 use crate::local::{appended, declaration};
 use crate::part::{self, condition, conversion, effect};
 use crate::scopes::{Body, Scopes};
 use crate::{line, whole};
+use kt_declarations::first::where_not;
 use kt_expressions::spelled::first_token;
 use kt_grammar::Expr;
 use kt_operators::first::earlier;
@@ -31,7 +31,7 @@ use std::alloc::{AllocError, Global};
 fn jump(alloc: Global, in_loop: bool, at: u32, s: kt_tree::Stmt) -> Result<Lines, AllocError>
     ensures { IfOk result (λ r. Judges lines_made (Held (where_not in_loop (bad_type at)) NoMore (one_line (tree.statement_of s))) r) }
 {
-    let broken = where_not(in_loop, Kind::BadType, at);
+    let broken = where_not(in_loop, at, Kind::BadType);
     let lines = line::one(alloc, s)?;
     Ok(under(broken, Ok(lines)))
 }
@@ -62,7 +62,7 @@ fn returned(
     let alloc = body.environment.alloc;
     match e {
         None => {
-            let broken = where_not(body.result.is_none(), Kind::BadType, at);
+            let broken = where_not(body.result.is_none(), at, Kind::BadType);
             let lines = line::one(alloc, kt_tree::Stmt::Return(None))?;
             Ok(under(broken, Ok(lines)))
         }
