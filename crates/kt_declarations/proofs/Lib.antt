@@ -6,6 +6,7 @@ mod Mapped
 mod Places
 mod Right
 mod Behind
+mod CanDefine
 mod Spelled
 mod Struct
 mod Within

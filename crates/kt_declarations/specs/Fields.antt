@@ -1,11 +1,14 @@
 -- The fields of a struct, and what the code keeps of their names.
-use Rattle.std.specs.Prelude.{◌≡◌, ℕ, ◌==◌, ◌+◌, take, Bool, true, false, List, [], ◌∷◌, Option, Some, None}
+use Rattle.std.specs.Prelude.{◌≡◌, ℕ, ◌==◌, ◌+◌, take, length, Bool, true, false, List, [], ◌∷◌, Option, Some, None}
 use Rattle.std.specs.List.{list_any, position_from}
 use Rattle.std.specs.Map.{lookup}
 use Rattle.std.specs.Str.{bytes_eq}
 use Rattle.kt_grammar.specs.declared.tree.Name.{Name}
 use Rattle.kt_syntax.specs.declared.tree.Extent.{Extent}
 use Rattle.kt_syntax.specs.declared.tree.Extent.TheVariants as extent
+use Rattle.kt_types.specs.declared.kinds.FieldDecl.{FieldDecl}
+use Rattle.kt_types.specs.declared.kinds.Ty.{Ty}
+use Rattle.kt_types.specs.Layout.{layout}
 use Rattle.kt_typing.specs.Environment.{Environment}
 use Rattle.kt_program.specs.Scopes.{contains}
 use Rattle.kt_program.specs.Structs.{field_cells}
@@ -69,3 +72,10 @@ place_by a (Some n) = (told (known a n.word)).1
 abbrev pub all_cells : Environment → List Field → ℕ
 all_cells env [] = 0
 all_cells env (x ∷ rest) = field_cells env x + all_cells env rest
+
+-- each of these has the name of its field, and a type of so many cells
+abbrev pub AreLaid : Environment → List Field → List FieldDecl → Type 0
+AreLaid env [] [] = Unit {0}
+AreLaid env (x ∷ xs) (d ∷ ds) =
+    (d.name ≡ x.declarator.name.word) × ((cs : List Ty) × (layout env.scope.types d.ty ≡ Some cs) × (length cs ≡ field_cells env x)) × AreLaid env xs ds
+AreLaid env _ _ = ⊥

@@ -4,7 +4,8 @@ ghost use Rattle.std.specs.Prelude.{◌≡◌, ℕ, ◌≤◌, Bool, true, false
 ghost use Rattle.kt_grammar.specs.declared.tree.Base.{Base};
 ghost use Rattle.kt_syntax.specs.declared.tree.GlobalDeclarator.{GlobalDeclarator};
 ghost use Rattle.kt_syntax.specs.Tree.{External, FunctionDeclared, Routine};
-ghost use Rattle.kt_types.specs.Table.{Definition};
+ghost use Rattle.kt_types.specs.declared.kinds.FieldDecl.{FieldDecl};
+ghost use Rattle.kt_types.specs.Table.{Definition, fields_of};
 ghost use Rattle.kt_typing.specs.Environment.{Environment};
 ghost use Rattle.kt_typing.specs.First.{earlier};
 ghost use Rattle.kt_program.specs.Declarators.{extent_fault, extent_of};
@@ -14,11 +15,11 @@ ghost use Rattle.kt_program.specs.Globals.{global};
 ghost use Rattle.kt_program.specs.Judgments.{Judgment, first_wrong, made};
 ghost use Rattle.kt_program.specs.Outside.{Whole, environment};
 ghost use Rattle.kt_program.specs.Statements.{absent};
-ghost use Rattle.kt_program.specs.FileTable.{are_distinct};
+ghost use Rattle.kt_program.specs.FileTable.{are_distinct, can_define};
 ghost use Rattle.kt_program.specs.Scopes.{contains};
 ghost use Rattle.kt_program.specs.Structs.{is_array_count, inner_extent_fault, struct};
 ghost use Rattle.kt_program.specs.Views.{Field, all_fields};
-ghost use Rattle.kt_declarations.specs.Fields.{all_cells};
+ghost use Rattle.kt_declarations.specs.Fields.{all_cells, AreLaid};
 ghost use Rattle.std.specs.List.{list_all};
 ghost use Rattle.kt_grammar.specs.declared.tree.Name.{Name};
 ghost use Rattle.kt_syntax.specs.declared.tree.Fields.{Fields};
@@ -45,11 +46,13 @@ pub fn globals_law()
 {}
 
 /// The definition of a struct with which nothing is wrong is the first of its name, and has fields of distinct names, each of a
-/// right number of elements, which are few enough together.
+/// right number of elements, which are few enough together. By such fields a struct that is not yet defined can be, where each has
+/// its name and a type of so many cells as it is counted with.
 pub fn structs_law()
     ensures new { (env : Environment) (defined : List (List ℕ)) (n : Name) (fs : List Fields) → first_wrong (struct env defined n fs) ≡ None → contains defined n.word ≡ false }
     ensures distinct { (env : Environment) (defined : List (List ℕ)) (n : Name) (fs : List Fields) → first_wrong (struct env defined n fs) ≡ None → are_distinct (map (λ x. x.declarator.name.word) (all_fields fs)) ≡ true }
     ensures counts { (env : Environment) (defined : List (List ℕ)) (n : Name) (fs : List Fields) → first_wrong (struct env defined n fs) ≡ None → list_all (λ x. is_array_count x.declarator.count) (all_fields fs) ≡ true }
     ensures cells { (env : Environment) (defined : List (List ℕ)) (n : Name) (fs : List Fields) → first_wrong (struct env defined n fs) ≡ None → all_cells env (all_fields fs) ≤ 65536 }
     ensures extents { (env : Environment) (defined : List (List ℕ)) (n : Name) (fs : List Fields) (i : ℕ) (x : Field) → first_wrong (struct env defined n fs) ≡ None → slice_get (all_fields fs) i ≡ Some x → inner_extent_fault env (all_fields fs) (extent_of x.declarator.pointer) ≡ None }
+    ensures can { (env : Environment) (defined : List (List ℕ)) (n : Name) (fs : List Fields) (number : ℕ) (ds : List FieldDecl) → first_wrong (struct env defined n fs) ≡ None → fields_of env.scope.types number ≡ None → AreLaid env (all_fields fs) ds → can_define env.scope.types number ds ≡ true }
 {}

@@ -5,6 +5,7 @@ pub mod base;
 mod cells;
 pub mod constant;
 pub mod declarator;
+pub mod define;
 pub mod field;
 pub mod first;
 pub mod functions;

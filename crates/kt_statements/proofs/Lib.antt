@@ -4,6 +4,7 @@ mod Declarators
 mod Entries
 mod Functions
 mod Judged
+mod Latest
 mod Lines
 mod Places
 mod Shown

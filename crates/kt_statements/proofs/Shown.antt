@@ -1,5 +1,5 @@
 -- What names mean where locals are in scope.
-use Rattle.std.proofs.Common.{zero, suc, ◌≡◌, ℕ, ◌+◌, ◌-◌, ◌≤◌, Bool, true, false, ◌||◌, List, [], ◌∷◌, ◌++◌, length, map, take, drop, slice_get, Option, None, Some, is_some, refl, sym, ap, subst, ◌∙◌, append_assoc, append-nil, length-append, length-drop, length-take-le, take-append-drop, arith}
+use Rattle.std.proofs.Common.{zero, suc, ◌≡◌, ℕ, ◌+◌, ◌-◌, ◌≤◌, Bool, true, false, ◌||◌, List, [], ◌∷◌, ◌++◌, length, map, take, drop, slice_get, Option, None, Some, is_some, refl, sym, ap, subst, ◌∙◌, append_assoc, append-nil, length-append, length-take-le, take-append-drop, arith}
 use Rattle.std.specs.List.{list_any}
 use Rattle.std.specs.Map.{lookup}
 use Rattle.std.specs.Str.{bytes_eq}
@@ -82,15 +82,6 @@ name_of l = l.name.now
 abbrev pub seen : List Local → ℕ → ℕ → Bool → Place
 seen xs start next in_loop =
     record { visible = map visible_of (latest_first xs); own = map name_of (latest_first (drop start xs)); next = next; in_loop = in_loop }
-
-or-false : (b : Bool) → (b || false) ≡ b
-or-false true = refl
-or-false false = refl
-
-or-swap : (a b c : Bool) → (a || (b || c)) ≡ (b || (a || c))
-or-swap true true c = refl
-or-swap true false c = refl
-or-swap false b c = refl
 
 pub take-whole : {A : Type 0} (xs : List A) → take (length xs) xs ≡ xs
 take-whole [] = refl
@@ -177,20 +168,6 @@ declared-is xs ys l start next in_loop h e n =
 any-map : {A B : Type 0} (test : B → Bool) (f : A → B) (xs : List A) → list_any test (map f xs) ≡ list_any (λ x. test (f x)) xs
 any-map test f [] = refl
 any-map test f (x ∷ xs) = ap (λ b. test (f x) || b) (any-map test f xs)
-
-any-append : {A : Type 0} (test : A → Bool) (xs ys : List A) → list_any test (xs ++ ys) ≡ (list_any test ys || list_any test xs)
-any-append test [] ys = sym (or-false (list_any test ys))
-any-append test (x ∷ xs) ys = ap (λ b. test x || b) (any-append test xs ys) ∙ or-swap (test x) (list_any test ys) (list_any test xs)
-
-any-latest : {A : Type 0} (test : A → Bool) (xs : List A) → list_any test (latest_first xs) ≡ list_any test xs
-any-latest test [] = refl
-any-latest test (x ∷ xs) = any-append test (latest_first xs) (x ∷ []) ∙ ap (λ b. (test x || false) || b) (any-latest test xs) ∙ ap (λ b. b || list_any test xs) (or-false (test x))
-
-pub own-has : (xs ys : List Local) (start : ℕ) (name : List ℕ) → ys ≡ xs → list_any (λ (l : Local). bytes_eq l.name.now name) (take (length ys - start) (drop start ys))
-    ≡ contains (map (λ (l : Local). l.name.now) (latest_first (drop start xs))) name
-own-has xs ys start name e =
-    ap (list_any (λ (l : Local). bytes_eq l.name.now name)) (ap (λ n. take n (drop start ys)) (sym (length-drop start ys)) ∙ take-whole (drop start ys) ∙ ap (drop start) e)
-    ∙ sym (any-map (λ m. bytes_eq m name) name_of (latest_first (drop start xs)) ∙ any-latest (λ (l : Local). bytes_eq l.name.now name) (drop start xs))
 
 module _ (ls : List FieldDecl) (n : ℕ) (name : List ℕ) where
   among-of : list_any (λ (l : FieldDecl). bytes_eq l.name name) (take n ls) ≡ contains (take n (map (λ (l : FieldDecl). l.name) ls)) name

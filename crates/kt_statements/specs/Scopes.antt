@@ -1,5 +1,5 @@
 -- What the code keeps of a function and of a place in it.
-use Rattle.std.specs.Prelude.{◌≡◌, ◌≤◌, ◌<◌, ◌^◌, ℕ, ◌-◌, List, [], ◌∷◌, ◌++◌, map, take, drop, length, slice_get, Some, if◌then◌else◌}
+use Rattle.std.specs.Prelude.{◌≡◌, ◌≤◌, ◌<◌, ◌^◌, ℕ, ◌-◌, List, [], ◌∷◌, ◌++◌, map, take, drop, length, slice_get, Some, if◌then◌else◌, Option, None}
 use Rattle.std.specs.Map.{lookup}
 use Rattle.std.specs.Str.{bytes_eq}
 use Rattle.std.specs.Global.{Vec}
@@ -56,10 +56,21 @@ Shows types outer now (l ∷ rest) =
 abbrev pub Shown : BodyCode → ScopesCode → Type 0
 Shown b s = Shows (body_of b).environment.scope.locals (body_of b).environment.name (meaning_in s.names.entries) (latest_first s.locals.items)
 
+-- the place of the first of these that has the name; the last of them has the place 0
+abbrev pub latest_place : List LocalCode → List ℕ → Option ℕ
+latest_place [] name = None
+latest_place (l ∷ rest) name = if bytes_eq l.name.now name then Some (length rest) else latest_place rest name
+
+-- under the number of each of these locals its place is kept
+abbrev pub Placed : List LocalCode → List ℕ → Type 0
+Placed locals places = (p : ℕ) (l : LocalCode) → slice_get locals p ≡ Some l → slice_get places l.number ≡ Some p
+
 pub record Fits (b : BodyCode) (s : ScopesCode) : Type 0 where
   pub start : s.start ≤ length s.locals.items
   pub count : length (body_of b).environment.scope.locals < 2 ^ 32
   pub shown : Shown b s
+  pub placed : Placed s.locals.items s.places.items
+  pub told : length s.places.items ≡ s.next
 
 -- the mark tells the scope of this place
 pub record IsMark (m : Mark) (p : Place) : Type 0 where

@@ -38,7 +38,7 @@ fn parameter<'f>(
     let base = parameter_base_fault(outside, &x.base, &x.pointer);
     let held = held_fault(outside, &x.base, &x.pointer, &x.name);
     let extent = extent_fault(outside, &x.pointer);
-    let twice = twice_fault(scopes, &x.name);
+    let twice = twice_fault(body, scopes, &x.name);
     let note = note_fault(body, scopes, &x.name);
     scopes.declare(body, x.name.word.as_bytes())?;
     let nothing: Lines = Ok(Items::new(body.environment.alloc));

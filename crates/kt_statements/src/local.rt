@@ -27,12 +27,12 @@ use sqlite_items::Items;
 use std::alloc::AllocError;
 
 /// A name stands once in a scope, and is no built-in call's.
-pub(crate) fn twice_fault(scopes: &Scopes<'_>, name: &Name) -> Option<Fault>
-    requires { scopes.now.start ≤ length scopes.now.locals.items }
+pub(crate) fn twice_fault<'f>(body: &Body<'f>, scopes: &Scopes<'f>, name: &Name) -> Option<Fault>
+    requires { Fits body.now scopes.now }
     ensures { result ≡ twice_fault (place_of scopes.now) name.now.word name.now.at }
 {
     let word = name.word.as_bytes();
-    let holds = builtin_named(word).is_none() && !scopes.has_own(word);
+    let holds = builtin_named(word).is_none() && !scopes.has_own(body, word);
     where_not(holds, name.at, Kind::Twice)
 }
 
@@ -94,7 +94,7 @@ fn local<'f>(
     let outside = &body.environment;
     let held = held_fault(outside, base, &l.pointer, &l.name);
     let extent = extent_fault(outside, &l.pointer);
-    let twice = twice_fault(scopes, &l.name);
+    let twice = twice_fault(body, scopes, &l.name);
     let note = note_fault(body, scopes, &l.name);
     let x = scopes.next;
     scopes.declare(body, l.name.word.as_bytes())?;

@@ -1,13 +1,14 @@
 //! The names in scope inside a function (ISO/IEC 9899:2011, 6.2.1).
 
-ghost use Rattle.std.specs.Prelude.{◌≡◌, ◌<◌, ◌≤◌, ◌-◌, ◌^◌, [], take, length, slice_get, Some, OnOk};
+ghost use Rattle.std.specs.Prelude.{◌≡◌, ◌<◌, ◌≤◌, ◌-◌, ◌^◌, [], ◌∷◌, ℕ, take, length, slice_get, true, Some, IfSome, IsNone, OnOk};
 ghost use Rattle.std.specs.List.{list_any};
 ghost use Rattle.std.specs.Str.{bytes_eq};
-ghost use Rattle.kt_operands.specs.Views.{environment_of};
+ghost use Rattle.kt_operands.specs.Views.{environment_of, meaning_of};
 ghost use Rattle.kt_program.specs.Scopes.{here, entered, looped, declared, contains};
 ghost use Rattle.kt_program.specs.Functions.{nowhere};
 ghost use Rattle.kt_statements.specs.declared.scopes.Body.{Body};
-ghost use Rattle.kt_statements.specs.Scopes.{body_of, place_of, meaning_in, Shown, Fits, IsMark, left};
+ghost use Rattle.kt_statements.specs.declared.scopes.Local.{Local};
+ghost use Rattle.kt_statements.specs.Scopes.{body_of, place_of, latest_first, latest_place, meaning_in, Shown, Fits, IsMark, left};
 
 use crate::mark::Mark;
 use crate::names::{hide, put};
@@ -15,6 +16,7 @@ use indexmap::IndexMap;
 use kt_operands::environment::Environment;
 use kt_operands::meaning::Meaning;
 use kt_types::FieldDecl;
+use sqlite_items::at;
 use std::alloc::{AllocError, Global};
 
 /// What holds in all of a function: what names mean outside of it, with the types of its locals; the type of its result; and its
@@ -41,6 +43,8 @@ pub struct Scopes<'f> {
     pub names: IndexMap<Vec<u8>, Meaning>,
     /// The locals in scope, the innermost last.
     pub locals: Vec<Local<'f>>,
+    /// For each local that was declared, how many were in scope before it.
+    pub places: Vec<usize>,
     /// How many of them stand around the innermost scope.
     pub start: usize,
     /// How many locals were declared before.
@@ -55,11 +59,11 @@ fn declares(locals: &[FieldDecl], name: &[u8]) -> bool
     locals.iter().any(|local| local.name.as_bytes() == name)
 }
 
-// Whether one of these has the name.
-fn has(locals: &[Local<'_>], name: &[u8]) -> bool
-    ensures { result ≡ list_any (λ l. bytes_eq l.name.now name.now) locals.now }
+// Whether it is the local's name.
+fn is_named(local: &Local<'_>, name: &[u8]) -> bool
+    ensures { result ≡ bytes_eq local.now.name.now name.now }
 {
-    locals.iter().any(|local| local.name == name)
+    local.name == name
 }
 
 impl<'f> Body<'f> {
@@ -106,18 +110,61 @@ impl<'f> Scopes<'f> {
         Scopes {
             names,
             locals: Vec::new(alloc),
+            places: Vec::new(alloc),
             start: 0,
             next: 0,
             in_loop: false,
         }
     }
 
+    // What a name means here.
+    fn meaning(&self, name: &[u8]) -> Meaning
+        ensures { meaning_of result ≡ meaning_in self.now.names.entries name.now }
+    {
+        match self.names.get(name) {
+            Some(meaning) => *meaning,
+            None => Meaning::Missing,
+        }
+    }
+
+    // Where the local of a number stands among those in scope, if it does and has the name.
+    fn place_at(&self, x: u32, name: &[u8]) -> Option<usize>
+        ensures there { IfSome result (λ p. (l : Local) × (slice_get self.now.locals.items p ≡ Some l) × (bytes_eq l.name.now name.now ≡ true)) }
+        ensures placed { IfSome result (λ p. slice_get self.now.places.items x ≡ Some p) }
+        ensures missing { IsNone result → (p : ℕ) → (l : Local) → slice_get self.now.places.items x ≡ Some p → slice_get self.now.locals.items p ≡ Some l → bytes_eq l.name.now name.now ≡ true → ⊥ }
+    {
+        let place = *at(self.places.as_slice(), x as usize)?;
+        let local = at(self.locals.as_slice(), place)?;
+        if is_named(local, name) {
+            Some(place)
+        } else {
+            None
+        }
+    }
+
+    // Where the latest local in scope of a name stands.
+    fn latest(&self, body: &Body<'f>, name: &[u8]) -> Option<usize>
+        requires { Fits body.now self.now }
+        ensures { result ≡ latest_place (latest_first self.now.locals.items) name.now }
+    {
+        match self.meaning(name) {
+            Meaning::Local(x, _) => self.place_at(x, name),
+            Meaning::Missing => None,
+            Meaning::Barred => None,
+            Meaning::Fixed(_, _, _) => None,
+            Meaning::Routine(_) => None,
+        }
+    }
+
     /// Whether the innermost scope has declared the name.
-    pub fn has_own(&self, name: &[u8]) -> bool
-        requires { self.now.start ≤ length self.now.locals.items }
+    pub fn has_own(&self, body: &Body<'f>, name: &[u8]) -> bool
+        requires { Fits body.now self.now }
         ensures { result ≡ contains (place_of self.now).own name.now }
     {
-        has(&self.locals[self.start..], name)
+        match self.latest(body, name) {
+            Some(place) => self.start <= place,
+            None => false,
+        }
     }
 
     /// Declares the name as the next local.
@@ -135,6 +182,8 @@ impl<'f> Scopes<'f> {
             name,
             Meaning::Local(number, ty),
         )?;
+        let place = self.locals.len();
+        self.places.push(place)?;
         self.locals.push(Local {
             name,
             number,
@@ -180,6 +229,7 @@ impl<'f> Scopes<'f> {
         ensures shows { Shown body.now self.new }
         ensures locals { self.new.locals.items ≡ take (length self.old.locals.items - 1) self.old.locals.items }
         ensures next { self.new.next ≡ self.old.next }
+        ensures places { self.new.places.items ≡ self.old.places.items }
     {
         if let Some(last) = self.locals.pop() {
             put(&mut self.names, last.name, last.hides);

@@ -1,5 +1,6 @@
 use Rattle.std.proofs.Common.{[], arith}
 use Rattle.kt_program.specs.Views.{all_fields}
+use Rattle.kt_declarations.proofs.CanDefine.{can-define}
 use Rattle.kt_declarations.proofs.Faultless.{new-right, fields-right, distinct, counted, few, extended}
 use Rattle.kt_declarations.proofs.laws.structs_law.Goals as goal
 
@@ -17,3 +18,6 @@ returns-clause-cells c env defined n fs right = let all = few env (all_fields fs
 
 pub returns-clause-extents : goal.returns-clause-extents
 returns-clause-extents c env defined n fs i x right at = extended env (all_fields fs) [] 0 (all_fields fs) i x (fields-right env defined n fs right) at
+
+pub returns-clause-can : goal.returns-clause-can
+returns-clause-can c env defined n fs s ds right new are = can-define env defined n fs s ds right new are

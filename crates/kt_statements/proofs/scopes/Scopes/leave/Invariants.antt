@@ -8,4 +8,4 @@ decreases-loop-self l = length l.self.locals.items
 abbrev pub invariant-loop-self : goal.invariant-loop-self
 invariant-loop-self l =
     (l.mark.count ≤ length l.self.locals.items) × (l.self.locals.items ≡ take (length l.self.locals.items) l.initial.self.locals.items)
-    × Shown l.body l.self × (l.self.next ≡ l.initial.self.next)
+    × Shown l.body l.self × (l.self.next ≡ l.initial.self.next) × (l.self.places.items ≡ l.initial.self.places.items)
