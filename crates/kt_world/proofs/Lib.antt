@@ -18,3 +18,4 @@ pub mod TypedTurns
 pub mod Places
 pub mod Taking
 pub mod Telling
+pub mod Showing

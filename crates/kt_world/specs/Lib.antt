@@ -14,5 +14,6 @@ pub mod Trees
 pub mod Marks
 pub mod Calm
 pub mod Typed
+pub mod Shows
 pub mod Laws
 pub mod Plain

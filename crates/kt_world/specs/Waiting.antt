@@ -10,14 +10,14 @@ use Rattle.kt_world.specs.World.{Engine, Thread, World, lives, takes_turns}
 
 -- ---- joining
 
+abbrev pub if_other : {Y : Type 0} → Bool → Option Y → Option Y
+if_other true o = None
+if_other false o = o
+
 -- the thread of a number, where thread t may join it: one that was made, neither `main` nor itself
 abbrev pub joined_at : {X : Type 0} → List (Thread X) → ℕ → ℕ → Option (Thread X)
 joined_at threads t zero = None
 joined_at threads t (suc n) = if_other (suc n == t) (slice_get threads (suc n))
-  where
-    if_other : {Y : Type 0} → Bool → Option Y → Option Y
-    if_other true o = None
-    if_other false o = o
 
 abbrev pub joined : {X : Type 0} → List (Thread X) → ℕ → ℤ → Option (Thread X)
 joined threads t (pos n) = joined_at threads t n

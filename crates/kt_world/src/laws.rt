@@ -7,6 +7,9 @@ ghost use Rattle.kt_world.specs.Trees.{tree_engine};
 ghost use Rattle.kt_world.specs.Typed.{WorldsAreTyped};
 ghost use Rattle.kt_world.specs.Rows.{ChainRow, EndedRow, JoinRow, JoinTraps, RefusalRow, RequestRow, SignalRow, StuckRow, UpdateRow, WakeRow};
 
+ghost use Rattle.kt_world.specs.Shows.{SameGoesOn, WhatIsShownIsTold};
+ghost use Rattle.kt_world.specs.World.{Engine};
+
 use crate::job::Job;
 
 /// One turn more is the world's next: a thread may take the next turn exactly where the turns before may be taken and it may
@@ -65,4 +68,12 @@ pub fn rows_law()
     ensures signal { SignalRow }
     ensures wake { WakeRow }
     ensures request { RequestRow }
+{}
+
+/// A world of any engine that shows one of the definition, whose heap objects have other names, tells the same: version, phase, output,
+/// turns, marks and end, and the same threads may take a turn in both. Threads that do the same by heap number do so after a reply
+/// of the act's kind, and where more addresses were given out.
+pub fn shows_law<X>(job: &Job)
+    ensures tells { (e : Engine X) → WhatIsShownIsTold e (tree_engine (job_of job.now)) }
+    ensures goes_on { (e : Engine X) → SameGoesOn e (tree_engine (job_of job.now)) }
 {}

@@ -7,5 +7,5 @@ mod laws;
 mod mark;
 
 pub use job::{Job, Plans, Versions};
-pub use laws::{refusal_law, rows_law, schedule_law, world_law};
+pub use laws::{calm_law, refusal_law, rows_law, schedule_law, shows_law, world_law};
 pub use mark::{Closed, End, Mark};
