@@ -1,17 +1,12 @@
 -- A world that shows another one tells the same: the same threads may take a turn.
 use Rattle.std.specs.Prelude.{◌≡◌, ◌==◌, ◌&&◌, ◌||◌, not, ℕ, ℤ, pos, negsuc, zero, suc, Bool, true, false, List, [], ◌∷◌, Option, None, Some, slice_get, refl}
 use Rattle.std.proofs.Common.{ap, sym, subst, ◌∙◌}
-use Rattle.kt_mem.specs.declared.memory.Value.{Value}
-use Rattle.kt_mem.specs.declared.memory.Value.TheVariants.{Num, Null, Ptr, Free, Held, Undef}
 use Rattle.kt_mem.specs.declared.steps.Act.{Act}
 use Rattle.kt_mem.specs.declared.steps.Act.TheVariants as act
-use Rattle.kt_mem.specs.Memory.{waits}
 use Rattle.kt_mem.specs.Renaming.{Pairs}
-use Rattle.kt_heap.specs.ByNumber.{by_number}
 use Rattle.kt_heap.specs.Heap.{IsPairing}
 use Rattle.kt_heap.proofs.NumberLaws.{waits_by_number}
 use Rattle.kt_meaning.specs.Steps.{Step, Quiet, Acts, Traps, Ends}
-use Rattle.kt_phase.specs.declared.counters.Phase.{Phase}
 use Rattle.kt_world.specs.Shows.{AreAll, IsGivenAct, IsSameStep, IsShownThread, SameGoesOn, TellsSame, WhatIsShownIsTold, act_by, shared_by, standing_by}
 use Rattle.kt_world.specs.Waiting.{any_enabled, enabled_as, enabled_if, if_other, is_enabled, is_running, is_turnable, is_waiting, joined, joined_at, waits_at}
 use Rattle.kt_world.specs.World.{Engine, Shared, Standing, Live, Waiter, Parked, Ended, Thread, World, lives, takes_turns}
@@ -123,7 +118,7 @@ module _ {X Y : Type 0} (e : Engine X) (f : Engine Y) (pairs : Pairs) where
         stands-same a.standing b.standing (is_turnable s.phase t)
         (is_waiting left t (e.step s.version a.state)) (is_waiting right t (f.step s.version b.state)) shown.standing
         (λ h. waiting-same t (e.step s.version a.state) (f.step s.version b.state)
-            (shown.does (turns-live a.standing h) []).step)
+        (shown.does (turns-live a.standing h) []).step)
 
     if-same : (t : ℕ) (o : Option (Thread X)) (p : Option (Thread Y)) → AreBoth s.version o p → enabled_if e left t o ≡ enabled_if f right t p
     if-same t None None both = refl

@@ -5,7 +5,6 @@
 use Rattle.std.specs.Prelude.{◌≡◌, ℕ, true, List, [], ◌∷◌, map, Option, None, Some}
 use Rattle.std.specs.List.{AllByRecursion}
 use Rattle.std.specs.Option.{option_map}
-use Rattle.kt_mem.specs.declared.memory.Name.{Name}
 use Rattle.kt_mem.specs.declared.memory.Value.{Value}
 use Rattle.kt_mem.specs.declared.memory.Value.TheVariants.{Ptr}
 use Rattle.kt_mem.specs.declared.steps.Act.{Act}
@@ -19,7 +18,7 @@ use Rattle.kt_mem.specs.Renaming.{Pairs, rename_name, rename_value, rename_value
 use Rattle.kt_heap.specs.ByNumber.{HoldsGiven, WasGiven, by_number}
 use Rattle.kt_heap.specs.Heap.{AreOneToOne, IsPairing}
 use Rattle.kt_meaning.specs.Requests.{IsReplyOf}
-use Rattle.kt_meaning.specs.Steps.{Step, Quiet, Acts, Traps, Ends, after_reply}
+use Rattle.kt_meaning.specs.Steps.{Step, Acts, Traps, Ends, after_reply}
 use Rattle.kt_meaning.specs.Thread.{Restart}
 use Rattle.kt_world.specs.Waiting.{any_enabled, is_enabled}
 use Rattle.kt_world.specs.World.{Call, Engine, Shared, Standing, Live, Waiter, Parked, Ended, Thread, World, lives}
@@ -162,7 +161,7 @@ DoSameOn e f version [] pairs x y = StandsSame e f version pairs x y
 DoSameOn e f version (p ∷ more) pairs x y =
     StandsSame e f version pairs x y ×
     (Grows pairs p.0 → IsReplyTo (e.step version x) p.1 → IsGivenReply p.0 p.1 →
-      DoSameOn e f version more p.0 (next_state e version x p.1) (next_state f version y (reply_by p.0 p.1)))
+    DoSameOn e f version more p.0 (next_state e version x p.1) (next_state f version y (reply_by p.0 p.1)))
 
 -- on every such list
 abbrev pub DoSame : {X Y : Type 0} → Engine X → Engine Y → ℕ → Pairs → X → Y → Type 0

@@ -6,7 +6,6 @@ ghost use Rattle.kt_world.specs.Plain.{job_of};
 ghost use Rattle.kt_world.specs.Trees.{tree_engine};
 ghost use Rattle.kt_world.specs.Typed.{WorldsAreTyped};
 ghost use Rattle.kt_world.specs.Rows.{ChainRow, EndedRow, JoinRow, JoinTraps, RefusalRow, RequestRow, SignalRow, StuckRow, UpdateRow, WakeRow};
-
 ghost use Rattle.kt_world.specs.Shows.{SameGoesOn, WhatIsShownIsTold};
 ghost use Rattle.kt_world.specs.World.{Engine};
 
