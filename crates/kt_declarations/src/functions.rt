@@ -135,7 +135,8 @@ impl<'f> Functions<'f> {
         self.met.get(name).copied()
     }
 
-    /// One more declaration of a function, and what is wrong with its head, among globals of these names.
+    /// One more declaration of a function, and what is wrong with its head, among globals of these names. Behind want of memory
+    /// these are of no more use.
     pub fn declare(
         &mut self,
         env: &Environment<'_>,

@@ -105,7 +105,8 @@ impl Globals {
         Ok(fault)
     }
 
-    /// The globals of one declaration, and what is wrong with them. Names of functions were met too.
+    /// The globals of one declaration, and what is wrong with them. Names of functions were met too. Behind want of memory these are
+    /// of no more use.
     pub fn declare(
         &mut self,
         env: &Environment<'_>,

@@ -24,16 +24,18 @@ ghost use Rattle.std.specs.List.{list_all};
 ghost use Rattle.kt_grammar.specs.declared.tree.Name.{Name};
 ghost use Rattle.kt_syntax.specs.declared.tree.Fields.{Fields};
 ghost use Rattle.kt_declarations.specs.Heads.{head_judged, inside};
-ghost use Rattle.kt_declarations.specs.Met.{HasStructs};
+ghost use Rattle.kt_declarations.specs.Met.{AreFunctions, AreNamed, HasStructs, routine_names};
+ghost use Rattle.kt_declarations.specs.declared.functions.Functions.{Functions};
 ghost use Rattle.kt_declarations.specs.Views.{FitsLong, Tells};
 
 /// What is judged of a function is what is judged of its head, over its parameters and its body: where nothing is wrong with the
 /// head, the function gives what these give, and else its first fault is the earlier of both. The structs that heads of a file name
-/// are structs of the file.
+/// are structs of the file. What is kept of declarations has their names.
 pub fn heads_law()
     ensures function { (w : Whole) (structs : List Definition) (globals : List (List ℕ)) (before : List Routine) (r : Routine) → function w structs globals before r ≡ head_judged (body_of w structs r).environment w globals before r (inside w structs r) }
     ensures first { (env : Environment) (w : Whole) (globals : List (List ℕ)) (before : List Routine) (r : Routine) (j : Judgment) → first_wrong (head_judged env w globals before r j) ≡ earlier (first_wrong (head_judged env w globals before r absent)) (first_wrong j) }
     ensures made { (env : Environment) (w : Whole) (globals : List (List ℕ)) (before : List Routine) (r : Routine) (j : Judgment) → first_wrong (head_judged env w globals before r absent) ≡ None → made (head_judged env w globals before r j) ≡ made j }
+    ensures named { (f : Functions) (structs : List (List ℕ)) (rs : List Routine) → AreFunctions f structs rs → AreNamed f (routine_names rs) }
     ensures structs { (xs : List External) (i : ℕ) (r : Routine) → slice_get xs i ≡ Some (FunctionDeclared r) → HasStructs (struct_names xs) r }
 {}
 

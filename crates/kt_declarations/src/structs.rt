@@ -147,7 +147,8 @@ fn fields_fault(env: &Environment<'_>, names: &FieldNames, fields: &[FieldOf<'_>
     fault
 }
 
-/// The definition of a struct, where those of these names are defined before, and what is wrong with it.
+/// The definition of a struct, where those of these names are defined before, and what is wrong with it. Behind want of memory the
+/// names are of no more use.
 pub fn declare_struct(
     env: &Environment<'_>,
     defined: &mut Names,

@@ -2,6 +2,8 @@ use Rattle.std.proofs.Common.{not}
 use Rattle.kt_typing.specs.Faults.{bad_type}
 use Rattle.kt_program.specs.Declarators.{where_not}
 use Rattle.kt_program.specs.Functions.{result_complete, is_result, result_place, function_twice, is_other_type}
+use Rattle.kt_declarations.specs.Met.{kept}
+use Rattle.kt_declarations.proofs.Behind.{is-named}
 use Rattle.kt_declarations.proofs.Right.{over-four, made-four}
 use Rattle.kt_declarations.proofs.Struct.{names-there}
 use Rattle.kt_declarations.proofs.laws.heads_law.Goals as goal
@@ -16,3 +18,6 @@ returns-clause-made c env w gs rs r j =
 
 pub returns-clause-structs : goal.returns-clause-structs
 returns-clause-structs c = names-there
+
+pub returns-clause-named : goal.returns-clause-named
+returns-clause-named c f structs rs are n = is-named structs rs n (kept f n) (are n)
