@@ -4,6 +4,7 @@ use Rattle.std.specs.Map.{lookup}
 use Rattle.std.specs.Str.{bytes_eq}
 use Rattle.kt_grammar.specs.declared.keyword.RuleWord.{RuleWord}
 use Rattle.kt_grammar.specs.declared.keyword.RuleWord.TheVariants as word
+use Rattle.kt_types.specs.Seen.{seen}
 use Rattle.kt_tree.specs.Tree.{Constant', LocalRead, expression_of}
 use Rattle.kt_tree.specs.Kinds.{Scope, Head}
 use Rattle.kt_typing.specs.declared.fault.Fault.{Fault}
@@ -59,7 +60,7 @@ lacking_fields dialect.Rules at named = unknown named
 
 unfoldable pub scope_of : EnvironmentCode → Scope
 scope_of e = record {
-  types = e.types.now;
+  types = seen e.defined e.types.now;
   globals = e.globals.now;
   literals = length e.literals.now.entries;
   functions = map head_of e.functions.now;

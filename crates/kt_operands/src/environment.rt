@@ -14,11 +14,13 @@ use kt_types::{Field, FieldDecl, Ty, TypeTable};
 use kt_typing::{Fault, Kind};
 use std::alloc::Global;
 
-/// What an expression is typed in: the table of types as it stands there, and what is kept of each name.
+/// What an expression is typed in: the table of types, how much of it is seen there, and what is kept of each name.
 #[derive(Drop)]
 pub struct Environment<'f> {
     pub alloc: Global,
     pub types: &'f TypeTable,
+    /// How many of the table's structs are defined there, in the order of their definitions.
+    pub defined: usize,
     /// The type `char *`.
     pub text: u32,
     /// For each type the type of pointers to it, where the table has it.
@@ -59,7 +61,7 @@ impl Environment<'_> {
     pub fn fields(&self, number: u32) -> Option<&[FieldDecl]>
         ensures { option_copied result ≡ fields_of (scope_of self.now).types number }
     {
-        self.types.fields(number)
+        self.types.fields_among(self.defined, number)
     }
 
     /// The type of the field of a number of the struct of a number.
@@ -83,7 +85,7 @@ impl Environment<'_> {
     pub fn field_named(&self, number: u32, name: &[u8]) -> Option<Field>
         ensures { result ≡ option_and_then (λ fields. field_named (scope_of self.now).types fields name.now) (fields_of (scope_of self.now).types number) }
     {
-        self.types.field_at(number, name)
+        self.types.field_among(self.defined, number, name)
     }
 
     /// What a pointer to a field of the type points to: the field, or the first element where it is an array.
@@ -156,7 +158,7 @@ impl Environment<'_> {
     pub fn is_complete(&self, t: u32) -> bool
         ensures { result ≡ is_complete (scope_of self.now) t }
     {
-        self.types.is_complete(t)
+        self.types.is_complete_among(self.defined, t)
     }
 
     /// The type of pointers to the type.

@@ -13,6 +13,7 @@ pub mod Lookup
 pub mod Names
 pub mod Parts
 pub mod Ranks
+pub mod Seen
 pub mod SameType
 pub mod Starts
 pub mod Views

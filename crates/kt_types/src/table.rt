@@ -7,6 +7,7 @@ ghost use Rattle.indexmap.specs.IndexMap.{index_map_len, set_value_at};
 ghost use Rattle.kt_types.specs.Copies.{IsCopy};
 ghost use Rattle.kt_types.specs.Kept.{AreNames, AreStarts, IsCounted, IsLaidOut, IsPart};
 ghost use Rattle.kt_types.specs.Layout.{cells, layout, joined, cell_limit, cells_before, field_named, CanDefine, IsComplete, IsFaulty, IsFitting, IsFixed, NamesPlaces};
+ghost use Rattle.kt_types.specs.Seen.{seen};
 ghost use Rattle.kt_types.specs.Table.{Table, scalar_table, fields_of, with_type, with_struct, with_definition, HasDistinctNames, HasType, HasStruct};
 
 use crate::faults::TypeFault;
@@ -293,6 +294,70 @@ impl TypeTable {
             ty: field.ty,
             view: field.view,
         })
+    }
+
+    /// How many structs are defined.
+    pub fn defined_count(&self) -> usize
+        ensures { result ≡ length self.now.defined }
+    {
+        self.defined.len()
+    }
+
+    /// The fields of the struct, in the order of their declarations, if it is one of the first n that were defined.
+    pub fn fields_among(&self, n: usize, s: u32) -> Option<&[FieldDecl]>
+        ensures { option_copied result ≡ fields_of (seen n self.now) s }
+    {
+        match self.layout_among(n, s) {
+            Some(layout) => Some(layout.fields.as_slice()),
+            None => None,
+        }
+    }
+
+    /// Whether the type at the place is complete where the first n structs are defined.
+    pub fn is_complete_among(&self, n: usize, ty: u32) -> bool
+        ensures { IsTrue result ↔ IsComplete (seen n self.now) ty }
+    {
+        match self.types.get_index(ty as usize) {
+            Some((kind, _)) => match kind {
+                Ty::Struct(s) => self.layout_among(n, *s).is_some(),
+                Ty::Array(element, _) => self.is_complete_among(n, *element),
+                _ => true,
+            },
+            None => false,
+        }
+    }
+
+    /// The field of this name of the struct, if the struct is one of the first n that were defined, and has one.
+    pub fn field_among(&self, n: usize, s: u32, name: &[u8]) -> Option<Field>
+        ensures { result ≡ option_and_then (λ fields. field_named (seen n self.now) fields name.now) (fields_of (seen n self.now) s) }
+    {
+        let layout = self.layout_among(n, s)?;
+        let index = layout.names.get_index_of(name)?;
+        let field = &layout.fields[index];
+        Some(Field {
+            index: index as u32,
+            cell: layout.starts[index],
+            ty: field.ty,
+            view: field.view,
+        })
+    }
+
+    // The layout of a struct that is one of the first n that were defined.
+    fn layout_among(&self, n: usize, s: u32) -> Option<&StructLayout>
+        ensures { MatchOption result (fields_of (seen n self.now) s ≡ None) (λ d. IsLaidOut (seen n self.now) d.now × (d.now.number ≡ s)) }
+    {
+        match self.structs.get_index(s as usize) {
+            Some((_, place)) => match place {
+                Some(i) => {
+                    if *i >= n {
+                        return None;
+                    }
+                    Some(&self.defined[*i])
+                }
+                None => None,
+            },
+            None => None,
+        }
     }
 
     // The layout of a struct, once it is defined.
