@@ -1,21 +1,20 @@
 -- Tables of which not all definitions are seen yet: what is seen has the cells that it has in the whole table.
-use Rattle.std.proofs.Common.{◌≡◌, ℕ, zero, suc, ◌+◌, ◌<◌, ◌≤◌, Bool, true, false, List, [], ◌∷◌, ◌++◌, map, reverse, length, if◌then◌else◌, ◌==◌, Option, None, Some, IsSome, refl, sym, ap, ◌∙◌, subst, arith, slice_get, inl, inr}
+use Rattle.std.proofs.Common.{◌≡◌, ℕ, zero, suc, ◌<◌, ◌≤◌, Bool, true, false, List, [], ◌∷◌, ◌++◌, map, reverse, length, if◌then◌else◌, ◌==◌, Option, None, Some, refl, sym, ap, ◌∙◌, subst, arith, slice_get}
 use Rattle.std.specs.Prelude.{nat_lt}
-use Rattle.std.specs.Option.{option_map, option_and_then}
+use Rattle.std.specs.Option.{option_map}
 use Rattle.std.proofs.lemmas.Bool.{eqb-true, eq-eqb}
 use Rattle.std.proofs.lemmas.Option.{none-some, option_and_then_some, same_Some, slice_get-map, slice_get_within}
 use Rattle.std.proofs.lemmas.Bool.Decides.{nat_tests}
 use Rattle.std.proofs.lemmas.List.{append_assoc, reverse-append, length-reverse}
 use Rattle.kt_types.proofs.Cells.{before-grows}
 use Rattle.kt_types.proofs.Views.{no-type, type-at}
-use Rattle.kt_types.proofs.Growth.{Grows, joined-grows, option_map_some, place-grows, struct-grows-defs, struct_cells-defined}
+use Rattle.kt_types.proofs.Growth.{Grows, joined-grows, option_map_some, place-grows, struct-grows-defs}
 use Rattle.kt_types.specs.Inside.{table_of, KeepsTable}
 use Rattle.kt_types.specs.declared.table.TypeTable.TheInside.{Inside}
-use Rattle.kt_types.specs.Kept.{AreStarts, IsCounted, IsDefinedOnce, IsLaidOut, definition_of}
+use Rattle.kt_types.specs.Kept.{IsCounted, IsDefinedOnce, IsLaidOut, definition_of}
 use Rattle.kt_types.specs.Layout.{repeated, joined, type_cells, place_cells, struct_cells, layout}
 use Rattle.kt_types.specs.Seen.{first_defined, seen}
 use Rattle.kt_types.specs.Table.{Table, Definition, fields_by, fields_of}
-use Rattle.kt_types.specs.declared.kinds.FieldDecl.{FieldDecl}
 use Rattle.kt_types.specs.declared.kinds.Ty.{Ty}
 use Rattle.kt_types.specs.declared.kinds.Ty.TheVariants.{Char, Int, Long, Mutex, Struct, Array, Ptr}
 use Rattle.kt_types.specs.declared.table.StructLayout.{StructLayout}
@@ -133,7 +132,7 @@ reversed-at {A = A} xs i x at =
       reverse rest,
       reverse front,
       ap reverse same ∙ reverse-append front (x ∷ rest) ∙ ap (λ (ys : List A). ys ++ reverse front) (reverse-append (x ∷ []) rest)
-      ∙ append_assoc (reverse rest) (x ∷ []) (reverse front),
+          ∙ append_assoc (reverse rest) (x ∷ []) (reverse front),
       length-reverse front ∙ count,
     )
 
@@ -181,9 +180,9 @@ module _ (t : Table) (once : IsDefinedOnce t.defined) (later : List Definition) 
       let once_all : IsDefinedOnce (later ++ x ∷ earlier) = subst IsDefinedOnce is once in
       let cs = laid.cells.0 in
       let own : joined (place_cells (struct_cells t.types earlier) t.types (length t.types)) d.fields.items ≡ Some cs =
-          sym (cells-among t.types x earlier later once_all) ∙ ap (λ (ds : List Definition). struct_cells t.types ds d.number) (sym is) ∙ laid.cells.1 in
+      sym (cells-among t.types x earlier later once_all) ∙ ap (λ (ds : List Definition). struct_cells t.types ds d.number) (sym is) ∙ laid.cells.1 in
       let grows : Grows (struct_cells t.types earlier) (struct_cells t.types (first_defined n t.defined)) =
-          subst (λ (ds : List Definition). Grows (struct_cells t.types earlier) (struct_cells t.types ds)) (sym there) (grows-among t.types x earlier more once_seen) in
+      subst (λ (ds : List Definition). Grows (struct_cells t.types earlier) (struct_cells t.types ds)) (sym there) (grows-among t.types x earlier more once_seen) in
       let joins : joined (layout (seen n t)) d.fields.items ≡ Some cs = joined-grows _ _ (layout-by n t earlier grows) d.fields.items cs own in
       record {
         known = ap (λ (ds : List Definition). fields_by ds d.number) there ∙ known-among t.types x earlier more once_seen;

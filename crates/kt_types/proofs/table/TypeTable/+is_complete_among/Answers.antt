@@ -26,12 +26,12 @@ returns-in-Array t c =
     let found = type-at c.self.inside c.args.self.now c.self.view_is c.self.invariant c.args.ty c.in-Some.kind.now c.in-Some.field-0-1.now c.in-Some.ensures.entry in
     let at : slice_get u.types c.args.ty ≡ Some (Array c.in-Array.element c.in-Array.field-1) = found.0 ∙ ap Some c.in-Array.is in (
       λ e.
-      let (es, has) = value-of _ (c.is_complete_among.ensures.0 e) in
-      some-of _ _ (array-complete u (falling c.self.inside c.args.self.now c.self.view_is c.self.invariant) c.args.ty c.in-Array.element c.in-Array.field-1 es at has),
+          let (es, has) = value-of _ (c.is_complete_among.ensures.0 e) in
+          some-of _ _ (array-complete u (falling c.self.inside c.args.self.now c.self.view_is c.self.invariant) c.args.ty c.in-Array.element c.in-Array.field-1 es at has),
       λ e.
-      let (cs, has) = value-of _ e in
-      let (es, element, same) = layout-array u c.args.ty c.in-Array.element c.in-Array.field-1 cs at has in
-      c.is_complete_among.ensures.1 (some-of _ es element),
+          let (cs, has) = value-of _ e in
+          let (es, element, same) = layout-array u c.args.ty c.in-Array.element c.in-Array.field-1 cs at has in
+          c.is_complete_among.ensures.1 (some-of _ es element),
     )
 
 pub returns-in_default : goal.returns-in_default
