@@ -5,7 +5,7 @@ ghost use Rattle.std.specs.Bool.{MatchBool};
 ghost use Rattle.std.specs.Option.{option_copied};
 ghost use Rattle.indexmap.specs.IndexMap.{index_map_len, set_value_at};
 ghost use Rattle.kt_types.specs.Copies.{IsCopy};
-ghost use Rattle.kt_types.specs.Kept.{AreNames, AreStarts, IsCounted, IsLaidOut, IsPart};
+ghost use Rattle.kt_types.specs.Kept.{AreNames, AreStarts, IsCounted, IsDefinedOnce, IsLaidOut, IsPart};
 ghost use Rattle.kt_types.specs.Layout.{cells, layout, joined, cell_limit, cells_before, field_named, CanDefine, IsComplete, IsFaulty, IsFitting, IsFixed, NamesPlaces};
 ghost use Rattle.kt_types.specs.Seen.{seen};
 ghost use Rattle.kt_types.specs.Table.{Table, scalar_table, fields_of, with_type, with_struct, with_definition, HasDistinctNames, HasType, HasStruct};
@@ -327,6 +327,18 @@ impl TypeTable {
         }
     }
 
+    /// How many cells the type has that is complete where the first n structs are defined.
+    pub fn cells_among(&self, n: usize, ty: u32) -> u32
+        requires { IsComplete (seen n self.now) ty }
+        ensures count { result ≡ length (cells (seen n self.now) ty) }
+        ensures some_cells { 1 ≤ result }
+        ensures within { result ≤ cell_limit }
+    {
+        // (for the proof alone, which needs what the fields keep)
+        let _ = &self.defined;
+        self.cells_of(ty)
+    }
+
     /// The field of this name of the struct, if the struct is one of the first n that were defined, and has one.
     pub fn field_among(&self, n: usize, s: u32, name: &[u8]) -> Option<Field>
         ensures { result ≡ option_and_then (λ fields. field_named (seen n self.now) fields name.now) (fields_of (seen n self.now) s) }
@@ -443,9 +455,10 @@ impl TypeTable {
 }
 
 /// The law of the layout. The layout of a type is that of its kind, by the layouts of the types that it names: a scalar
-/// gives itself, a struct joins its fields' cells, an array repeats its element's.
+/// gives itself, a struct joins its fields' cells, an array repeats its element's. Each struct is defined once.
 pub fn layout_law(table: &TypeTable, ty: u32)
-    ensures { IsFixed table.now ty }
+    ensures fixed { IsFixed table.now ty }
+    ensures once { IsDefinedOnce table.now.defined }
 {
     let _ = &table.types;
 }
