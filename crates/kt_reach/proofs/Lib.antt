@@ -1,0 +1,10 @@
+pub mod Marks
+pub mod Joined
+pub mod Levels
+pub mod Firsts
+pub mod Becomes
+pub mod Leads
+pub mod Orders
+pub mod Named
+pub mod Laid
+pub mod Sums

@@ -1,0 +1,7 @@
+pub mod Answer
+pub mod Found
+pub mod Walk
+pub mod Cells
+pub mod Spots
+pub mod Told
+pub mod Sizes
