@@ -1,14 +1,20 @@
 -- What `reach` answers: what an update reaches, in order; what is wrong at places, and fresh places. Names are those of the heap,
 -- whose heap objects go by address.
-use Rattle.std.specs.Prelude.{◌≡◌, ◌↔◌, ◌⊎◌, ℕ, ◌<◌, List, [], ◌∷◌, ◌++◌, map, filter, flat_map, not, Bool, true, false, Contains, AllPairs, Option, unwrap_or, Result}
+use Rattle.std.specs.Prelude.{◌≡◌, ◌↔◌, ◌⊎◌, ℕ, ◌*◌, ◌<◌, ◌≤◌, List, [], ◌∷◌, ◌++◌, map, filter, flat_map, slice_get, not, Bool, true, false, Contains, AllPairs, IsSome, Option, None, Some, unwrap_or, Result}
+use Rattle.kt_types.specs.declared.kinds.FieldDecl.{FieldDecl}
 use Rattle.kt_types.specs.declared.kinds.Ty.{Ty}
 use Rattle.kt_mem.specs.declared.memory.Name.{Name}
 use Rattle.kt_mem.specs.declared.memory.Name.TheVariants.{Glob, Lit, Heap}
 use Rattle.kt_mem.specs.declared.steps.Trap.{Trap}
-use Rattle.kt_mem.specs.Memory.{Memory}
+use Rattle.kt_types.specs.Layout.{layout}
+use Rattle.kt_types.specs.Table.{Definition, fields_by, fields_of}
+use Rattle.kt_mem.specs.Memory.{Memory, Object}
 use Rattle.kt_heap.specs.Heap.{number_at}
 use Rattle.xf_plan.specs.Images.{FreshPlace, told, fresh_in}
-use Rattle.xf_plan.specs.Plan.{Plan}
+use Rattle.xf_plan.specs.Correspondence.{converts}
+use Rattle.xf_plan.specs.Plan.{Plan, FieldRule, FieldSource, OldField, ZeroField, FieldBody, GlobalRule, GlobalSource, Unmapped, OldGlobal, GlobalBody, is_pair, rules_of}
+use Rattle.xf_plan.specs.Sources.{width}
+use Rattle.xf_plan.specs.Whole.{IsWhole}
 use Rattle.xf_plan.specs.Reached.{IsReached}
 use Rattle.xf_plan.specs.Spots.{Spot, fault_at, global_spots, heap_spots, root_spots}
 use Rattle.xf_plan.specs.declared.place.Fault.{Fault}
@@ -93,3 +99,40 @@ fresh_of spots = flat_map (λ s. fresh_in s.place s.pre) spots
 -- a fresh place of the code: the place, the element type, the count
 abbrev pub fresh_place : Place × ℕ × ℕ → FreshPlace
 fresh_place x = record { place = x.0; ty = x.1; count = x.2 }
+
+-- ---- plans and heaps of an update
+
+-- each struct is defined once
+abbrev pub IsDefinedOnce : List Definition → Type 0
+IsDefinedOnce [] = Unit {0}
+IsDefinedOnce (d ∷ earlier) = (fields_by earlier d.number ≡ None) × IsDefinedOnce earlier
+
+-- a field of an old struct of these fields converts by default to a new type
+abbrev pub FieldConverts : Plan → List FieldDecl → ℕ → FieldSource → Type 0
+FieldConverts p fields b (OldField k) = (d : FieldDecl) × (slice_get fields k ≡ Some d) × (converts p d.ty b ≡ true)
+FieldConverts p fields b ZeroField = Unit {0}
+FieldConverts p fields b (FieldBody source body) = Unit {0}
+
+-- a mapped global has a complete type and at most 65,536 cells; what it comes from converts to it by default
+pub record IsCellsOf (p : Plan) (g : GlobalRule) : Type 0 where
+  pub complete : IsSome (layout p.new g.ty)
+  pub few : g.count * width p.new g.ty ≤ 65536
+
+abbrev pub IsMappedWell : Plan → GlobalRule → GlobalSource → Type 0
+IsMappedWell p g Unmapped = Unit {0}
+IsMappedWell p g (OldGlobal number a n) = IsCellsOf p g × IsSome (layout p.old a) × (converts p a g.ty ≡ true) × (n ≤ g.count)
+IsMappedWell p g (GlobalBody source body) = IsCellsOf p g
+
+-- what whoever makes a plan owes: it is whole, and by default only what converts is given
+pub record IsReady (p : Plan) : Type 0 where
+  pub whole : IsWhole p
+  pub once : IsDefinedOnce p.new.defined
+  pub fields :
+      (s r : ℕ) (fields : List FieldDecl) (f : FieldRule) (n : ℕ) → is_pair p.structs s r ≡ true → fields_of p.old s ≡ Some fields → slice_get (rules_of p r) n ≡ Some f
+      → FieldConverts p fields f.ty f.source
+  pub globals : (n : ℕ) (g : GlobalRule) → slice_get p.globals n ≡ Some g → IsMappedWell p g g.source
+
+-- each heap object has a complete type, and at most 65,536 cells, as allocation sees to it
+pub record IsHeapOf (p : Plan) (m : Memory) : Type 0 where
+  pub complete : (a : ℕ) (o : Object) → m.at (Heap a) ≡ Some o → IsSome (layout p.old o.ty)
+  pub few : (a : ℕ) (o : Object) → m.at (Heap a) ≡ Some o → o.count * width p.old o.ty ≤ 65536

@@ -5,3 +5,4 @@ pub mod Cells
 pub mod Spots
 pub mod Told
 pub mod Sizes
+pub mod Things
