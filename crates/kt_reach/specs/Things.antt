@@ -1,5 +1,5 @@
 -- Things that an update makes, by their elements: images of heap objects, and mapped globals. No public clause cites this module.
-use Rattle.std.specs.Prelude.{ℕ, List, [], slice_get, Option, None, Some, option_and_then, Result}
+use Rattle.std.specs.Prelude.{ℕ, Bool, true, false, List, [], slice_get, Option, None, Some, option_and_then, Result}
 use Rattle.std.specs.Option.{option_map}
 use Rattle.kt_mem.specs.declared.memory.Name.{Name}
 use Rattle.kt_mem.specs.declared.memory.Name.TheVariants.{Heap}
@@ -7,7 +7,7 @@ use Rattle.kt_mem.specs.declared.steps.Trap.{Trap}
 use Rattle.kt_mem.specs.Memory.{Memory, Object}
 use Rattle.xf_plan.specs.Correspondence.{new_type}
 use Rattle.xf_plan.specs.Extents.{Extent, NewCell, element_cells, extent_of, new_cells, plain_extent}
-use Rattle.xf_plan.specs.Plan.{Plan, GlobalRule}
+use Rattle.xf_plan.specs.Plan.{Plan, GlobalRule, GlobalSource, GlobalBody}
 use Rattle.xf_plan.specs.PreValues.{origin}
 use Rattle.xf_plan.specs.Sources.{Source, global_sources, object_sources, width}
 use Rattle.xf_plan.specs.Spots.{Spot, pre_at, spots_from}
@@ -54,3 +54,12 @@ pre_in p m q = pre_at p m q.name (cells_of p q) q.sources
 abbrev pub spots_in : Plan → Memory → Option Made → List Spot
 spots_in p m None = []
 spots_in p m (Some q) = spots_from p m (pre_in p m q) q.place 0 (cells_of p q)
+
+-- a body gives a global
+abbrev pub is_body : GlobalSource → Bool
+is_body (GlobalBody source body) = true
+is_body s = false
+
+abbrev pub is_by_body : Option GlobalRule → Bool
+is_by_body None = false
+is_by_body (Some g) = is_body g.source
