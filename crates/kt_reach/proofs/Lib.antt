@@ -8,3 +8,7 @@ pub mod Orders
 pub mod Named
 pub mod Laid
 pub mod Sums
+pub mod Grounded
+pub mod NewCells
+pub mod HaveSources
+pub mod Things

@@ -20,6 +20,7 @@ mod search;
 mod sizes;
 mod spot;
 mod spots;
+mod thing;
 mod told;
 mod visit;
 mod walk;

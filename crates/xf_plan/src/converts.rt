@@ -114,8 +114,9 @@ impl RulePlan {
         }
     }
 
-    // Whether the types at two places correspond.
-    fn corresponds(&self, from: u32, to: u32) -> bool
+    /// Whether the type at a place of the old version's table corresponds to the one at a place of the new version's: `char`,
+    /// `int`, `long` and the mutex to themselves, structs by the plan, pointers where their pointees do.
+    pub fn corresponds(&self, from: u32, to: u32) -> bool
         ensures { result ≡ corresponds (plan_of self.now) from to }
     {
         let mut old = from;
