@@ -12,3 +12,4 @@ pub mod Grounded
 pub mod NewCells
 pub mod HaveSources
 pub mod Things
+pub mod SpotLists

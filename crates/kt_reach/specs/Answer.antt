@@ -1,6 +1,6 @@
 -- What `reach` answers: what an update reaches, in order; what is wrong at places, and fresh places. Names are those of the heap,
 -- whose heap objects go by address.
-use Rattle.std.specs.Prelude.{◌≡◌, ◌↔◌, ◌⊎◌, ℕ, ◌*◌, ◌<◌, ◌≤◌, List, [], ◌∷◌, ◌++◌, map, filter, flat_map, slice_get, not, Bool, true, false, Contains, AllPairs, IsSome, Option, None, Some, unwrap_or, Result}
+use Rattle.std.specs.Prelude.{◌≡◌, ◌↔◌, ◌⊎◌, ℕ, ◌*◌, ◌<◌, ◌≤◌, List, [], ◌∷◌, ◌++◌, map, filter, flat_map, length, slice_get, not, Bool, true, false, Contains, AllPairs, IsSome, Option, None, Some, unwrap_or, Result}
 use Rattle.kt_types.specs.declared.kinds.FieldDecl.{FieldDecl}
 use Rattle.kt_types.specs.declared.kinds.Ty.{Ty}
 use Rattle.kt_mem.specs.declared.memory.Name.{Name}
@@ -127,6 +127,7 @@ IsMappedWell p g (GlobalBody source body) = IsCellsOf p g
 pub record IsReady (p : Plan) : Type 0 where
   pub whole : IsWhole p
   pub once : IsDefinedOnce p.new.defined
+  pub few_globals : length p.globals < 4294967296
   pub fields :
       (s r : ℕ) (fields : List FieldDecl) (f : FieldRule) (n : ℕ) → is_pair p.structs s r ≡ true → fields_of p.old s ≡ Some fields → slice_get (rules_of p r) n ≡ Some f
       → FieldConverts p fields f.ty f.source

@@ -6,3 +6,4 @@ pub mod Spots
 pub mod Told
 pub mod Sizes
 pub mod Things
+pub mod Shapes

@@ -12,16 +12,19 @@ use std::alloc::{AllocError, Global};
 /// The place of `char` in a table of types.
 const CHAR: u32 = 0;
 
-/// The cells of a thing of the type at a place; `own` is the extent of its pointers, where it has no fields.
+/// The cells of a thing of the type at a place, which begins so many cells behind the start of a larger one; `own` is the
+/// extent of its pointers, where it has no fields.
 pub(crate) fn new_cells(
     alloc: Global,
     types: &TypeTable,
     own: Extent,
+    start: u64,
     place: u32,
 ) -> Result<Vec<NewCell>, AllocError>
-    ensures { IfOk result (λ v. map cell_of v.items ≡ new_cells types.now 0 (extent_of own) place) }
+    requires { start ≤ 4294967296 }
+    ensures { IfOk result (λ v. map cell_of v.items ≡ new_cells types.now start (extent_of own) place) }
 {
-    let first = vec![in alloc; Part::Inner(0, own, place)]?;
+    let first = vec![in alloc; Part::Inner(start, own, place)]?;
     let parts = lay_out(alloc, types, first)?;
     let cells = cells_among(alloc, &parts)?;
     Ok(cells)
@@ -29,7 +32,7 @@ pub(crate) fn new_cells(
 
 // Parts, laid out type by type until each is a cell.
 fn lay_out(alloc: Global, types: &TypeTable, first: Vec<Part>) -> Result<Vec<Part>, AllocError>
-    requires { AreWithinStart 0 first.items }
+    requires { AreWithinStart 4294967296 first.items }
     ensures { IfOk result (λ v. laid_cells v.items ≡ parts_cells types.now (length types.now.types) first.items) }
 {
     let mut parts = first;

@@ -6,6 +6,7 @@
 #![tactic(auto)]
 
 mod cell;
+mod elements;
 mod fitting;
 mod found;
 mod judge;

@@ -64,7 +64,7 @@ fn before(types: &TypeTable, fields: &[FieldDecl], k: u32) -> u64
 }
 
 /// The extent that a view says, in a struct of these fields so many cells behind the start of the thing.
-fn extent(types: &TypeTable, fields: &[FieldDecl], start: u64, view: View) -> Extent
+pub(crate) fn extent(types: &TypeTable, fields: &[FieldDecl], start: u64, view: View) -> Extent
     requires few { cells_before types.now fields.now (length fields.now) ≤ 65536 }
     requires room { start ≤ 4611686018427387904 }
     ensures { extent_of result ≡ plain.extent_of types.now fields.now start view }

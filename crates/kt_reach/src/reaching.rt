@@ -2,7 +2,7 @@
 ghost use Rattle.std.specs.Prelude.{◌≡◌, IfOk, map};
 ghost use Rattle.kt_heap.specs.Heap.{memory};
 ghost use Rattle.xf_plan.specs.Plain.{plan_of};
-ghost use Rattle.kt_reach.specs.Answer.{added_roots, AreReached, AreRoots, faults_in, fresh_of, fresh_place, spots_over};
+ghost use Rattle.kt_reach.specs.Answer.{added_roots, AreReached, AreRoots, IsHeapOf, IsReady, faults_in, fresh_of, fresh_place, spots_over};
 
 use crate::names::names;
 use crate::order::{by_number, by_version};
@@ -23,7 +23,9 @@ pub fn reach(
     plan: &RulePlan,
     roots: &[Root],
 ) -> Result<Reached, AllocError>
-    requires { AreRoots (plan_of plan.now) (memory heap.now) roots.now }
+    requires plan { IsReady (plan_of plan.now) }
+    requires heap { IsHeapOf (plan_of plan.now) (memory heap.now) }
+    requires roots { AreRoots (plan_of plan.now) (memory heap.now) roots.now }
     ensures objects { IfOk result (λ r. AreReached (plan_of plan.now) (memory heap.now) (added_roots roots.now) r.objects) }
     ensures faults { IfOk result (λ r. r.faults ≡ faults_in (plan_of plan.now) (memory heap.now) (spots_over (plan_of plan.now) (memory heap.now) (added_roots roots.now) r.objects)) }
     ensures fresh { IfOk result (λ r. map fresh_place r.fresh ≡ fresh_of (spots_over (plan_of plan.now) (memory heap.now) (added_roots roots.now) r.objects)) }

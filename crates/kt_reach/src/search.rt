@@ -4,6 +4,7 @@ ghost use Rattle.kt_heap.specs.Heap.{memory};
 ghost use Rattle.xf_plan.specs.Plain.{plan_of};
 ghost use Rattle.xf_plan.specs.Spots.{root_spots};
 ghost use Rattle.xf_plan.specs.declared.place.Root.{Root};
+ghost use Rattle.kt_reach.specs.Answer.{IsHeapOf, IsReady};
 ghost use Rattle.kt_reach.specs.Spots.{spots_of};
 ghost use Rattle.kt_reach.specs.Walk.{FindsReached};
 
@@ -22,6 +23,8 @@ pub(crate) fn search_from(
     heap: &Heap,
     begun: &[Spot],
 ) -> Result<Found, AllocError>
+    requires plan { IsReady (plan_of plan.now) }
+    requires heap { IsHeapOf (plan_of plan.now) (memory heap.now) }
     ensures { IfOk result (λ f. (roots : List Root) → spots_of begun.now ≡ root_spots (plan_of plan.now) (memory heap.now) roots → FindsReached (plan_of plan.now) (memory heap.now) roots f) }
 {
     let mut found = Found::new(alloc, heap.slots())?;

@@ -3,7 +3,7 @@ ghost use Rattle.std.specs.Prelude.{◌≡◌, ℕ, true, OnOk, IfOk, [], ◌∷
 ghost use Rattle.kt_heap.specs.Heap.{memory};
 ghost use Rattle.xf_plan.specs.Plain.{plan_of};
 ghost use Rattle.xf_plan.specs.Spots.{heap_spots};
-ghost use Rattle.kt_reach.specs.Answer.{faults_in, fresh_of, fresh_place};
+ghost use Rattle.kt_reach.specs.Answer.{IsHeapOf, IsReady, faults_in, fresh_of, fresh_place};
 ghost use Rattle.kt_reach.specs.Walk.{IsClean};
 ghost use Rattle.kt_reach.specs.Spots.{spot_of, spots_of};
 ghost use Rattle.kt_reach.specs.Told.{Tells};
@@ -54,6 +54,8 @@ impl Told {
         heap: &Heap,
         objects: &[u64],
     ) -> Result<(), AllocError>
+        requires plan { IsReady (plan_of plan.now) }
+        requires heap { IsHeapOf (plan_of plan.now) (memory heap.now) }
         ensures { OnOk result (Tells (plan_of plan.now) (memory heap.now) (flat_map (heap_spots (plan_of plan.now) (memory heap.now)) objects.now) self.old self.new) }
     {
         for a in objects {
@@ -88,6 +90,8 @@ pub(crate) fn tell(
     objects: &[u64],
     clean: bool,
 ) -> Result<Told, AllocError>
+    requires plan { IsReady (plan_of plan.now) }
+    requires heap { IsHeapOf (plan_of plan.now) (memory heap.now) }
     requires begun { clean ≡ true → (faults_in (plan_of plan.now) (memory heap.now) (spots_of begun.now) ≡ []) × (fresh_of (spots_of begun.now) ≡ []) }
     requires objects { clean ≡ true → (a : ℕ) → Contains objects.now a → IsClean (plan_of plan.now) (memory heap.now) a }
     ensures faults { IfOk result (λ t. t.faults ≡ faults_in (plan_of plan.now) (memory heap.now) (spots_of begun.now ++ flat_map (heap_spots (plan_of plan.now) (memory heap.now)) objects.now)) }

@@ -3,6 +3,7 @@ ghost use Rattle.std.specs.Prelude.{◌≡◌, OnOk, length};
 ghost use Rattle.kt_heap.specs.Heap.{key_count, memory};
 ghost use Rattle.xf_plan.specs.Plain.{plan_of};
 ghost use Rattle.xf_plan.specs.Spots.{heap_spots};
+ghost use Rattle.kt_reach.specs.Answer.{IsHeapOf, IsReady};
 ghost use Rattle.kt_reach.specs.Found.{Finds, IsMarked};
 ghost use Rattle.kt_reach.specs.Spots.{spots_of};
 
@@ -22,6 +23,8 @@ pub(crate) fn visit(
     a: u64,
     found: &mut Found,
 ) -> Result<(), AllocError>
+    requires plan { IsReady (plan_of plan.now) }
+    requires heap { IsHeapOf (plan_of plan.now) (memory heap.now) }
     requires marked { IsMarked (memory heap.now) found.old }
     requires size { length found.old.seen.items ≡ key_count heap.now }
     ensures { OnOk result (Finds (plan_of plan.now) (memory heap.now) (heap_spots (plan_of plan.now) (memory heap.now) a) found.old found.new) }

@@ -4,6 +4,7 @@ ghost use Rattle.kt_mem.specs.declared.memory.Name.TheVariants as name;
 ghost use Rattle.kt_heap.specs.Heap.{key_count, memory};
 ghost use Rattle.xf_plan.specs.Plain.{plan_of};
 ghost use Rattle.xf_plan.specs.Spots.{heap_spots};
+ghost use Rattle.kt_reach.specs.Answer.{IsHeapOf, IsReady};
 ghost use Rattle.kt_reach.specs.Found.{Finds, IsMarked};
 ghost use Rattle.kt_reach.specs.Walk.{WalksAll};
 
@@ -20,6 +21,8 @@ pub(crate) fn walk(
     heap: &Heap,
     found: &mut Found,
 ) -> Result<(), AllocError>
+    requires plan { IsReady (plan_of plan.now) }
+    requires heap { IsHeapOf (plan_of plan.now) (memory heap.now) }
     requires marked { IsMarked (memory heap.now) found.old }
     requires size { length found.old.seen.items ≡ key_count heap.now }
     ensures { OnOk result (WalksAll (plan_of plan.now) (memory heap.now) found.old found.new) }
@@ -41,6 +44,8 @@ fn visit_level(
     level: &[u64],
     found: &mut Found,
 ) -> Result<(), AllocError>
+    requires plan { IsReady (plan_of plan.now) }
+    requires heap { IsHeapOf (plan_of plan.now) (memory heap.now) }
     requires marked { IsMarked (memory heap.now) found.old }
     requires size { length found.old.seen.items ≡ key_count heap.now }
     requires live { All (λ a. IsSome ((memory heap.now).at (name.Heap a))) level.now }

@@ -21,8 +21,8 @@ loop-preserved c =
     let low : k < length t.types = omega (arith, c.loop-test.true, c.type_count-end.ensures) in
     let one : length t.types - k ≡ suc left = one-left (length t.types) k low in
     let expanded : parts_cells t left c.in_ok-parts.parts.items ≡ parts_cells t (suc left) c.loop.parts.items = c.in_ok-parts.ensures.cells left ∙ ap (parts_cells t (suc left)) c.deref-in-loop.ensures.value in
-    let before = subst (λ (xs : List Part). AreWithinStart (k * 65536) xs) (sym c.deref-in-loop.ensures.value) c.loop.invariant.starts in
+    let before = subst (λ (xs : List Part). AreWithinStart (k * 65536 + 4294967296) xs) (sym c.deref-in-loop.ensures.value) c.loop.invariant.starts in
     record {
       cells = expanded ∙ ap (λ n. parts_cells t n c.loop.parts.items) (sym one) ∙ c.loop.invariant.cells;
-      starts = wider (k * 65536 + 65536) ((k + 1) * 65536) c.in_ok-parts.parts.items (omega arith) (c.in_ok-parts.ensures.starts (k * 65536) before);
+      starts = wider (k * 65536 + 4294967296 + 65536) ((k + 1) * 65536 + 4294967296) c.in_ok-parts.parts.items (omega arith) (c.in_ok-parts.ensures.starts (k * 65536 + 4294967296) before);
     }

@@ -1,4 +1,4 @@
-use Rattle.std.proofs.Common.{◌≡◌, ◌-◌, ◌*◌, length}
+use Rattle.std.proofs.Common.{◌≡◌, ◌+◌, ◌-◌, ◌*◌, length}
 use Rattle.kt_reach.specs.Cells.{AreWithinStart, parts_cells}
 use Rattle.kt_reach.proofs.layout.lay_out.Given as goal
 
@@ -6,5 +6,5 @@ use Rattle.kt_reach.proofs.layout.lay_out.Given as goal
 abbrev pub invariant-loop : goal.invariant-loop
 invariant-loop l = record {
   cells : parts_cells l.types (length l.types.types - l.counter) l.parts.items ≡ parts_cells l.types (length l.types.types) l.initial.parts.items;
-  starts : AreWithinStart (l.counter * 65536) l.parts.items;
+  starts : AreWithinStart (l.counter * 65536 + 4294967296) l.parts.items;
 }
