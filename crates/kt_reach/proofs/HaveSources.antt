@@ -21,7 +21,7 @@ use Rattle.kt_reach.proofs.Grounded.{all_by, complete-laid, struct_by, type_by, 
 
 -- ---- options that have a value
 
-mapped : {A B : Type 0} (f : A → B) (o : Option A) → IsSome o → IsSome (option_map f o)
+pub mapped : {A B : Type 0} (f : A → B) (o : Option A) → IsSome o → IsSome (option_map f o)
 mapped f None h = absurd (false≢true h)
 mapped f (Some x) h = refl
 
@@ -37,7 +37,7 @@ both-give : {A B C : Type 0} (f : A → B → C) (o : Option A) (q : Option B) �
 both-give f None q h k = absurd (false≢true h)
 both-give f (Some x) q h k = mapped (f x) q k
 
-longer-has : (w i z j : ℕ) (o : Option (List Source)) → nat_le i j ≡ true → IsSome o → IsSome (option_and_then (of_longer w i z j) o)
+pub longer-has : (w i z j : ℕ) (o : Option (List Source)) → nat_le i j ≡ true → IsSome o → IsSome (option_and_then (of_longer w i z j) o)
 longer-has w i z j None fits h = absurd (false≢true h)
 longer-has w i z j (Some xs) fits h = rw fits refl
 

@@ -1,5 +1,5 @@
 -- The pre-values of the cells of a thing are those that calls for pre-values give.
-use Rattle.std.specs.Prelude.{◌≡◌, ℕ, zero, suc, ◌+◌, ◌*◌, ◌/◌, ◌%◌, ◌<◌, ◌≤◌, nat_le, Bool, true, false, List, [], ◌∷◌, ◌++◌, length, map, replicate, slice_get, Option, None, Some, option_and_then, IsSome, Result, Err, refl}
+use Rattle.std.specs.Prelude.{◌≡◌, ℕ, zero, suc, ◌+◌, ◌*◌, ◌/◌, ◌%◌, ◌<◌, ◌≤◌, nat_le, Bool, true, false, List, [], ◌∷◌, ◌++◌, length, map, replicate, slice_get, Option, None, Some, option_and_then, unwrap_or, ◌⊎◌, IsSome, Result, Err, refl}
 use Rattle.std.specs.Option.{option_map}
 use Rattle.std.proofs.Common.{arith, ap, inl, inr, sym, subst, ◌∙◌}
 use Rattle.std.proofs.Math.Nat.{mod-lt, mul-le-mul_right}
@@ -18,18 +18,20 @@ use Rattle.kt_mem.specs.declared.steps.Trap.{Trap}
 use Rattle.kt_mem.specs.declared.steps.Trap.TheVariants.{Uninit}
 use Rattle.kt_mem.specs.Memory.{Memory, Object}
 use Rattle.xf_plan.specs.Correspondence.{new_type}
-use Rattle.xf_plan.specs.Extents.{NewCell}
+use Rattle.xf_plan.specs.Extents.{NewCell, extent_of}
 use Rattle.xf_plan.specs.Plan.{Plan, GlobalRule, GlobalSource, Unmapped, OldGlobal, GlobalBody}
-use Rattle.xf_plan.specs.Sources.{Source, global_sources, moved_by, object_sources, of_elements, of_longer, sources, width}
-use Rattle.xf_plan.specs.Spots.{pre_at, pre_of}
-use Rattle.xf_plan.specs.declared.value.PreValue.{PreValue}
-use Rattle.xf_eval.specs.Asked.{IsElement, cell_of, cell_value, element_cell, global_cell, global_value, part_cell, source_at}
+use Rattle.xf_plan.specs.Sources.{Source, FromBody, global_sources, moved_by, object_sources, of_elements, of_longer, sources, width}
+use Rattle.xf_plan.specs.PreValues.{origin}
+use Rattle.xf_plan.specs.Spots.{NoCount, count_of_global, count_of_mapped, number_in, pre_of}
+use Rattle.xf_plan.specs.declared.place.Place.TheVariants.{GlobalCell}
+use Rattle.xf_eval.specs.Asked as eval
+use Rattle.xf_eval.specs.Asked.{IsElement, at_place, cell_of, cell_value, element_cell, global_type, global_value, part_cell}
 use Rattle.xf_eval.proofs.Elements.{elements-at, elements-length, longer-length}
 use Rattle.xf_eval.proofs.Sizes.{are-sized}
 use Rattle.kt_reach.specs.Answer.{IsCellsOf, IsHeapOf, IsMappedWell, IsReady}
-use Rattle.kt_reach.specs.Things.{Made, cells_of, element_of, global_of, image_by, image_of, is_body, is_by_body, made_of, pre_in}
+use Rattle.kt_reach.specs.Things.{Made, cells_of, element_of, global_of, is_body, is_by_body, is_mapped, made_of, pre_in}
 use Rattle.kt_reach.specs.declared.thing.Thing.TheVariants.{Image, Global}
-use Rattle.kt_reach.proofs.HaveSources.{have-sources, new-type-complete, new-type-converts}
+use Rattle.kt_reach.proofs.HaveSources.{have-sources, longer-has, mapped as has-mapped, new-type-complete}
 use Rattle.kt_reach.proofs.NewCells.{elements-types, new-types, type_of, types_of}
 
 -- ---- a cell that has a type and a source
@@ -153,3 +155,118 @@ module _ (p : Plan) (ready : IsReady p) (m : Memory) where
           | inl near ↦ near
           | inr far ↦ let up : n * w ≤ e * w = mul-le-mul_right w far in absurd (omega (arith, split, low, up))
         ]
+
+  -- ---- mapped globals
+
+  -- what a mapped global is made of
+  pub record Global-of (g : ℕ) (q : Made) : Type 0 where
+    pub rule : GlobalRule
+    pub at : slice_get p.globals g ≡ Some rule
+    pub from : global_sources p rule rule.source ≡ Some q.sources
+    pub ty : q.ty ≡ rule.ty
+    pub count : q.count ≡ rule.count
+    pub name : q.name ≡ origin rule.source
+
+  pub global-is : (g : ℕ) (q : Made) → made_of p m (Global g) ≡ Some q → Global-of g q
+  global-is g q h =
+      option_and_then_some _ (slice_get p.globals g) q h (λ r at made.
+      let (xs, from, same) = option_map_some _ (global_sources p r r.source) q made in
+      record {
+        rule = r;
+        at = at;
+        from = from ∙ ap (λ (x : Made). Some x.sources) same;
+        ty = ap (λ (x : Made). x.ty) (sym same);
+        count = ap (λ (x : Made). x.count) (sym same);
+        name = ap (λ (x : Made). x.name) (sym same);
+      })
+
+  mapped-cells : (r : GlobalRule) (s : GlobalSource) (xs : List Source) → IsMappedWell p r s → global_sources p r s ≡ Some xs → IsCellsOf p r
+  mapped-cells r Unmapped xs well e = absurd (none-some xs e)
+  mapped-cells r (OldGlobal number a n) xs well e = well.0
+  mapped-cells r (GlobalBody source body) xs well e = well
+
+  pub global-cells : (g : ℕ) (q : Made) → made_of p m (Global g) ≡ Some q → IsSome (layout p.new q.ty) × (q.count * width p.new q.ty ≤ 65536)
+  global-cells g q h =
+      let its = global-is g q h in
+      let well = mapped-cells its.rule its.rule.source q.sources (ready.globals g its.rule its.at) its.from in
+      (
+        subst (λ b. IsSome (layout p.new b)) (sym its.ty) well.complete,
+        subst (λ b. q.count * width p.new b ≤ 65536) (sym its.ty) (subst (λ n. n * width p.new its.rule.ty ≤ 65536) (sym its.count) well.few),
+      )
+
+  -- a mapped global has sources
+  pub mapped-has : (r : GlobalRule) (s : GlobalSource) → IsMappedWell p r s → is_mapped s ≡ true → IsSome (global_sources p r s)
+  mapped-has r Unmapped well h = absurd (false≢true h)
+  mapped-has r (GlobalBody source body) well h = refl
+  mapped-has r (OldGlobal number a n) (cells, old, converts, fits) h =
+      longer-has (width p.old a) n (width p.new r.ty) r.count (sources p a r.ty) (le-leb n r.count fits) (have-sources p ready a r.ty converts old cells.complete)
+
+  -- a source for each cell, where it isn't given by a body
+  source-there : (r : GlobalRule) (s : GlobalSource) (xs : List Source) → global_sources p r s ≡ Some xs → (i : ℕ) → i < r.count * width p.new r.ty → (i ≡ 0) ⊎ (is_body s ≡ false)
+      → IsSome (slice_get xs i)
+  source-there r Unmapped xs e i low h = absurd (none-some xs e)
+  source-there r (OldGlobal number a n) xs e i low h =
+      option_and_then_some _ (sources p a r.ty) xs e (λ ys has longer.
+      in-range xs i (omega (arith, low, longer-length (width p.old a) n (width p.new r.ty) r.count ys xs (are-sized p ready.whole (length p.new.types) a r.ty ys has) longer)))
+  source-there r (GlobalBody source body) xs e i low (inl first) =
+      let same : FromBody (option_map (λ i. 0) source) None body ∷ [] ≡ xs = cc in
+      subst (λ ys. IsSome (slice_get ys i)) same (subst (λ j. IsSome (slice_get (FromBody (option_map (λ i. 0) source) None body ∷ []) j)) (sym first) refl)
+  source-there r (GlobalBody source body) xs e i low (inr other) = absurd (false≢true (sym other))
+
+  pub global-cell : (g : ℕ) (q : Made) → made_of p m (Global g) ≡ Some q → (i : ℕ) → i < q.count * width p.new q.ty → (i ≡ 0) ⊎ (is_by_body (slice_get p.globals g) ≡ false)
+      → global_value p m g i ≡ Some (pre_in p m q i)
+  global-cell g q h i low where_from =
+      let its = global-is g q h in
+      let complete = (global-cells g q h).0 in
+      let low' : i < its.rule.count * width p.new its.rule.ty = subst (λ n. i < n * width p.new its.rule.ty) its.count (subst (λ b. i < q.count * width p.new b) its.ty low) in
+      let by_rule : (i ≡ 0) ⊎ (is_body its.rule.source ≡ false) = subst (λ (o : Option GlobalRule). (i ≡ 0) ⊎ (is_by_body o ≡ false)) its.at where_from in
+      let has = source-there its.rule its.rule.source q.sources its.from i low' by_rule in
+      let value = cell-is p m q.name (slice_get (cells_of p q) i) (slice_get q.sources i) (cell-there q complete i low) has in
+      ap (option_and_then (eval.global_cell p m i)) its.at
+      ∙ ap (λ xs. eval.cell_of p m (origin its.rule.source) (global_type p its.rule i) (at_place xs i)) its.from
+      ∙ ap (λ b. eval.cell_of p m (origin its.rule.source) (slice_get (cells p.new b) (i % width p.new b)) (slice_get q.sources i)) (sym its.ty)
+      ∙ ap (λ t. eval.cell_of p m (origin its.rule.source) t (slice_get q.sources i)) (type-at q complete i low)
+      ∙ ap (λ n. eval.cell_of p m n (option_map type_of (slice_get (cells_of p q) i)) (slice_get q.sources i)) (sym its.name)
+      ∙ value
+
+  no-source : (n : Name) (c : Option NewCell) → pre_of p m n c None ≡ Err Uninit
+  no-source n None = refl
+  no-source n (Some c) = refl
+
+  -- a body gives the first cell alone
+  pub body-rest : (g : ℕ) (q : Made) → made_of p m (Global g) ≡ Some q → (i : ℕ) → 0 < i → is_by_body (slice_get p.globals g) ≡ true → pre_in p m q i ≡ Err Uninit
+  body-rest g q h i later body =
+      let its = global-is g q h in
+      let is : is_body its.rule.source ≡ true = subst (λ (o : Option GlobalRule). is_by_body o ≡ true) its.at body in
+      ap (pre_of p m q.name (slice_get (cells_of p q) i)) (none its.rule its.rule.source q.sources its.from i later is) ∙ no-source q.name (slice_get (cells_of p q) i)
+    where
+      none : (r : GlobalRule) (s : GlobalSource) (xs : List Source) → global_sources p r s ≡ Some xs → (i : ℕ) → 0 < i → is_body s ≡ true → slice_get xs i ≡ None
+      none r Unmapped xs e i later h = absurd (false≢true h)
+      none r (OldGlobal number a n) xs e i later h = absurd (false≢true h)
+      none r (GlobalBody source body) xs e zero later h = absurd (omega (arith, later))
+      none r (GlobalBody source body) xs e (suc i) later h = let same : FromBody (option_map (λ i. 0) source) None body ∷ [] ≡ xs = cc in ap (λ ys. slice_get ys (suc i)) (sym same)
+
+  -- ---- the number that a global says
+
+  -- a mapped global is made of something
+  pub mapped-made : (g : ℕ) (r : GlobalRule) → slice_get p.globals g ≡ Some r → is_mapped r.source ≡ true → IsSome (made_of p m (Global g))
+  mapped-made g r at mapped =
+      subst (λ (o : Option GlobalRule). IsSome (option_and_then (global_of p g) o)) (sym at) (has-mapped _ (global_sources p r r.source) (mapped-has r r.source (ready.globals g r at) mapped))
+
+  pub count-said : (g : ℕ) (q : Made) → made_of p m (Global g) ≡ Some q → count_of_global p m (slice_get p.globals g) ≡ number_in (pre_in p m q 0)
+  count-said g q h =
+      option_and_then_some _ (slice_get p.globals g) q h (λ r at made. ap (count_of_global p m) at ∙ by r (global_sources p r r.source) made)
+    where
+      by : (r : GlobalRule) (o : Option (List Source))
+          → option_map (λ xs. record { name = origin r.source; ty = r.ty; count = r.count; own = extent_of p.new [] 0 r.view; place = GlobalCell g; sources = xs }) o ≡ Some q
+          → count_of_mapped p m r o ≡ number_in (pre_in p m q 0)
+      by r None e = absurd (none-some q e)
+      by r (Some xs) e = ap (λ (o : Option Made). number_in (pre_in p m (unwrap_or o q) 0)) e
+
+  pub nothing-said : (g : ℕ) (q : Made) → made_of p m (Global g) ≡ Some q → q.count * width p.new q.ty ≡ 0 → count_of_global p m (slice_get p.globals g) ≡ NoCount
+  nothing-said g q h none =
+      count-said g q h ∙ ap (λ c. number_in (pre_of p m q.name c (slice_get q.sources 0))) (no-first (cells_of p q) (all-length q (global-cells g q h).0 ∙ none))
+    where
+      no-first : (xs : List NewCell) → length xs ≡ 0 → slice_get xs 0 ≡ None
+      no-first [] e = refl
+      no-first (x ∷ xs) e = absurd (omega (arith, e))

@@ -7,7 +7,7 @@ use Rattle.kt_mem.specs.declared.steps.Trap.{Trap}
 use Rattle.kt_mem.specs.Memory.{Memory, Object}
 use Rattle.xf_plan.specs.Correspondence.{new_type}
 use Rattle.xf_plan.specs.Extents.{Extent, NewCell, element_cells, extent_of, new_cells, plain_extent}
-use Rattle.xf_plan.specs.Plan.{Plan, GlobalRule, GlobalSource, GlobalBody}
+use Rattle.xf_plan.specs.Plan.{Plan, GlobalRule, GlobalSource, Unmapped, GlobalBody}
 use Rattle.xf_plan.specs.PreValues.{origin}
 use Rattle.xf_plan.specs.Sources.{Source, global_sources, object_sources, width}
 use Rattle.xf_plan.specs.Spots.{Spot, pre_at, spots_from}
@@ -54,6 +54,11 @@ pre_in p m q = pre_at p m q.name (cells_of p q) q.sources
 abbrev pub spots_in : Plan → Memory → Option Made → List Spot
 spots_in p m None = []
 spots_in p m (Some q) = spots_from p m (pre_in p m q) q.place 0 (cells_of p q)
+
+-- a global comes from something
+abbrev pub is_mapped : GlobalSource → Bool
+is_mapped Unmapped = false
+is_mapped s = true
 
 -- a body gives a global
 abbrev pub is_body : GlobalSource → Bool

@@ -46,6 +46,7 @@ fn image_shape(plan: &RulePlan, heap: &Heap, a: u64) -> Option<Shape>
 {
     let obj = heap.object(a)?;
     let ty = plan.new_type(obj.ty)?;
+    let _old = plan.old.cells_of(obj.ty);
     Some(Shape {
         ty,
         wide: width(&plan.new, ty),

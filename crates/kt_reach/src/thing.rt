@@ -14,6 +14,7 @@ ghost use Rattle.kt_reach.specs.Things.{Made, is_by_body, made_of, pre_in};
 ghost use Rattle.kt_reach.specs.declared.thing.Thing.TheVariants as thing;
 
 use crate::cell::Extent;
+use crate::parts::width;
 use crate::spot::Wanted;
 use crate::wanted::{initial_number, number_in};
 use kt_heap::Heap;
@@ -163,7 +164,7 @@ pub(crate) fn count_of_global(
     match &rule.source {
         GlobalSource::Unmapped => Ok(initial_number(rule.init)),
         _ => {
-            if rule.count == 0 {
+            if rule.count == 0 || width(&plan.new, rule.ty) == 0 {
                 return Ok(Wanted::Unsaid);
             }
             let pre = global_pre(alloc, plan, heap, g, 0)?;
