@@ -1,0 +1,12 @@
+pub mod Bodies
+pub mod Code
+pub mod Completion
+pub mod Files
+pub mod Judgments
+pub mod Made
+pub mod Names
+pub mod Pairs
+pub mod Plans
+pub mod Rules
+pub mod Things
+pub mod Types
