@@ -1,12 +1,17 @@
 pub mod Bodies
+pub mod BodyRows
 pub mod Code
 pub mod Completion
+pub mod Examples
 pub mod Files
+pub mod Fragments
 pub mod Judgments
 pub mod Made
 pub mod Names
 pub mod Pairs
+pub mod PlanRows
 pub mod Plans
 pub mod Rules
+pub mod SideRows
 pub mod Things
 pub mod Types

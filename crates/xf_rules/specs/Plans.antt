@@ -55,3 +55,11 @@ spelled new (FieldGoal r k) = codes "struct " ++ name_or_none (slice_get new.typ
 spelled new (GlobalGoal g) = name_or_none (option_map (λ (d : GlobalDecl). d.name) (slice_get new.globals g))
 spelled new (LocalGoal f x) =
     name_or_none (option_map (λ (g : Function). g.name) (slice_get new.functions f)) ++ codes "::" ++ declared_name (local_decl new f x)
+
+-- ---- worked rows
+
+abbrev pub IsRefused : Program → Program → List Rule × Refusal → Type 0
+IsRefused old new row = IsRefusedBy old new row.0 row.1
+
+abbrev pub IsAccepted : Program → Program → List Rule → Type 0
+IsAccepted old new rules = (p : Plan) × IsPlanOf old new rules p

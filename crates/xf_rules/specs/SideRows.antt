@@ -1,0 +1,81 @@
+-- Worked rows of names, sides and things that stand twice, and of things that need a rule; both versions are the wide one.
+use Rattle.std.specs.Prelude.{ℕ, true, false, List, [], ◌∷◌, ◌≡◌, codes, Option, Some, None, Ok, Err}
+use Rattle.kt_typing.specs.declared.fault.Kind.TheVariants as kind
+use Rattle.kt_typing.specs.Faults.{fault_at, unknown, bad_type}
+use Rattle.kt_typing.specs.Rows.{name}
+use Rattle.xf_syntax.specs.declared.tree.Target.TheVariants as target
+use Rattle.xf_syntax.specs.declared.tree.Side.TheVariants as side
+use Rattle.xf_syntax.specs.Tree.{StructsPaired, Started, Moved, Rule}
+use Rattle.xf_rules.specs.Completion.{FieldGoal, GlobalGoal, LocalGoal}
+use Rattle.xf_rules.specs.Plans.{Refusal, Faulty, NeedsRule}
+use Rattle.xf_rules.specs.Fragments.{struct}
+
+-- the first fault of each file
+abbrev pub refused_sides : List (List Rule × Refusal)
+refused_sides =
+    -- zz -> g;
+    ((Moved (side.Target (target.Global (name 0 (codes "zz")))) (side.Target (target.Global (name 6 (codes "g")))) None ∷ []), Faulty (unknown 0))
+    -- g -> zz;
+    ∷ ((Moved (side.Target (target.Global (name 0 (codes "g")))) (side.Target (target.Global (name 5 (codes "zz")))) None ∷ []), Faulty (unknown 5))
+    -- main -> g;
+    ∷ ((Moved (side.Target (target.Global (name 0 (codes "main")))) (side.Target (target.Global (name 8 (codes "g")))) None ∷ []), Faulty (unknown 0))
+    -- g -> f::q;
+    ∷ ((Moved (side.Target (target.Global (name 0 (codes "g")))) (side.Local (name 5 (codes "f")) (name 8 (codes "q"))) None ∷ []), Faulty (bad_type 5))
+    -- f::q -> f::q; f::r -> f::q;
+    ∷ ((Moved (side.Local (name 0 (codes "f")) (name 3 (codes "q"))) (side.Local (name 8 (codes "f")) (name 11 (codes "q"))) None ∷ Moved (side.Local (name 14 (codes "f")) (name 17 (codes "r"))) (side.Local (name 22 (codes "f")) (name 25 (codes "q"))) None ∷ []), Faulty (fault_at kind.Twice 22))
+    -- f::zz -> f::q;
+    ∷ ((Moved (side.Local (name 0 (codes "f")) (name 3 (codes "zz"))) (side.Local (name 9 (codes "f")) (name 12 (codes "q"))) None ∷ []), Faulty (unknown 3))
+    -- h::q -> h::q;
+    ∷ ((Moved (side.Local (name 0 (codes "h")) (name 3 (codes "q"))) (side.Local (name 8 (codes "h")) (name 11 (codes "q"))) None ∷ []), Faulty (bad_type 8))
+    -- f::q -> h::q;
+    ∷ ((Moved (side.Local (name 0 (codes "f")) (name 3 (codes "q"))) (side.Local (name 8 (codes "h")) (name 11 (codes "q"))) None ∷ []), Faulty (bad_type 8))
+    -- struct S.v -> struct T.k;
+    ∷ ((Moved (side.Target (target.Field (struct 0 (name 7 (codes "S"))) (name 9 (codes "v")))) (side.Target (target.Field (struct 14 (name 21 (codes "T"))) (name 23 (codes "k")))) None ∷ []), Faulty (bad_type 14))
+    -- struct S.v -> struct Z.k;
+    ∷ ((Moved (side.Target (target.Field (struct 0 (name 7 (codes "S"))) (name 9 (codes "v")))) (side.Target (target.Field (struct 14 (name 21 (codes "Z"))) (name 23 (codes "k")))) None ∷ []), Faulty (unknown 21))
+    -- struct Z.v -> struct S.v;
+    ∷ ((Moved (side.Target (target.Field (struct 0 (name 7 (codes "Z"))) (name 9 (codes "v")))) (side.Target (target.Field (struct 14 (name 21 (codes "S"))) (name 23 (codes "v")))) None ∷ []), Faulty (unknown 7))
+    -- struct S.v -> struct S.zz;
+    ∷ ((Moved (side.Target (target.Field (struct 0 (name 7 (codes "S"))) (name 9 (codes "v")))) (side.Target (target.Field (struct 14 (name 21 (codes "S"))) (name 23 (codes "zz")))) None ∷ []), Faulty (unknown 23))
+    -- struct S.v -> g;
+    ∷ ((Moved (side.Target (target.Field (struct 0 (name 7 (codes "S"))) (name 9 (codes "v")))) (side.Target (target.Global (name 14 (codes "g")))) None ∷ []), Faulty (bad_type 14))
+    -- g -> struct S.v;
+    ∷ ((Moved (side.Target (target.Global (name 0 (codes "g")))) (side.Target (target.Field (struct 5 (name 12 (codes "S"))) (name 14 (codes "v")))) None ∷ []), Faulty (bad_type 5))
+    -- g -> struct Z.v;
+    ∷ ((Moved (side.Target (target.Global (name 0 (codes "g")))) (side.Target (target.Field (struct 5 (name 12 (codes "Z"))) (name 14 (codes "v")))) None ∷ []), Faulty (bad_type 5))
+    -- struct S -> struct Z;
+    ∷ ((StructsPaired (struct 0 (name 7 (codes "S"))) (struct 12 (name 19 (codes "Z"))) ∷ []), Faulty (unknown 19))
+    -- struct Z -> struct S;
+    ∷ ((StructsPaired (struct 0 (name 7 (codes "Z"))) (struct 12 (name 19 (codes "S"))) ∷ []), Faulty (unknown 7))
+    -- struct S -> struct T; struct S -> struct S;
+    ∷ ((StructsPaired (struct 0 (name 7 (codes "S"))) (struct 12 (name 19 (codes "T"))) ∷ StructsPaired (struct 22 (name 29 (codes "S"))) (struct 34 (name 41 (codes "S"))) ∷ []), Faulty (fault_at kind.Twice 22))
+    -- g -> g; g -> g;
+    ∷ ((Moved (side.Target (target.Global (name 0 (codes "g")))) (side.Target (target.Global (name 5 (codes "g")))) None ∷ Moved (side.Target (target.Global (name 8 (codes "g")))) (side.Target (target.Global (name 13 (codes "g")))) None ∷ []), Faulty (fault_at kind.Twice 8))
+    -- g -> g; g -> gl;
+    ∷ ((Moved (side.Target (target.Global (name 0 (codes "g")))) (side.Target (target.Global (name 5 (codes "g")))) None ∷ Moved (side.Target (target.Global (name 8 (codes "g")))) (side.Target (target.Global (name 13 (codes "gl")))) None ∷ []), Faulty (fault_at kind.Twice 8))
+    -- INIT struct Z.x;
+    ∷ ((Started (target.Field (struct 5 (name 12 (codes "Z"))) (name 14 (codes "x"))) None ∷ []), Faulty (unknown 12))
+    -- struct T -> struct U;
+    ∷ ((StructsPaired (struct 0 (name 7 (codes "T"))) (struct 12 (name 19 (codes "U"))) ∷ []), Faulty (bad_type 12))
+    ∷ []
+
+-- files without a fault, by which something needs a rule
+abbrev pub needing : List (List Rule × Refusal)
+needing =
+    -- gl -> g;
+    ((Moved (side.Target (target.Global (name 0 (codes "gl")))) (side.Target (target.Global (name 6 (codes "g")))) None ∷ []), NeedsRule (GlobalGoal 0))
+    -- f::z -> f::r;
+    ∷ ((Moved (side.Local (name 0 (codes "f")) (name 3 (codes "z"))) (side.Local (name 8 (codes "f")) (name 11 (codes "r"))) None ∷ []), NeedsRule (LocalGoal 0 1))
+    -- struct S -> struct T; struct T -> struct S;
+    ∷ ((StructsPaired (struct 0 (name 7 (codes "S"))) (struct 12 (name 19 (codes "T"))) ∷ StructsPaired (struct 22 (name 29 (codes "T"))) (struct 34 (name 41 (codes "S"))) ∷ []), NeedsRule (GlobalGoal 4))
+    -- struct S.a -> struct S.v;
+    ∷ ((Moved (side.Target (target.Field (struct 0 (name 7 (codes "S"))) (name 9 (codes "a")))) (side.Target (target.Field (struct 14 (name 21 (codes "S"))) (name 23 (codes "v")))) None ∷ []), NeedsRule (FieldGoal 0 0))
+    -- struct S.v -> struct S.a;
+    ∷ ((Moved (side.Target (target.Field (struct 0 (name 7 (codes "S"))) (name 9 (codes "v")))) (side.Target (target.Field (struct 14 (name 21 (codes "S"))) (name 23 (codes "a")))) None ∷ []), NeedsRule (FieldGoal 0 5))
+    -- st -> g;
+    ∷ ((Moved (side.Target (target.Global (name 0 (codes "st")))) (side.Target (target.Global (name 6 (codes "g")))) None ∷ []), NeedsRule (GlobalGoal 0))
+    -- ps -> gp;
+    ∷ ((Moved (side.Target (target.Global (name 0 (codes "ps")))) (side.Target (target.Global (name 6 (codes "gp")))) None ∷ []), NeedsRule (GlobalGoal 3))
+    -- struct S.next -> struct S.t;
+    ∷ ((Moved (side.Target (target.Field (struct 0 (name 7 (codes "S"))) (name 9 (codes "next")))) (side.Target (target.Field (struct 17 (name 24 (codes "S"))) (name 26 (codes "t")))) None ∷ []), NeedsRule (FieldGoal 0 6))
+    ∷ []
