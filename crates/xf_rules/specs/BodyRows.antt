@@ -4,13 +4,13 @@ use Rattle.kt_grammar.specs.declared.operator.BinaryOperator.TheVariants as bina
 use Rattle.kt_grammar.specs.declared.operator.PrefixOperator.TheVariants as prefix
 use Rattle.kt_grammar.specs.declared.keyword.RuleWord.TheVariants as word
 use Rattle.kt_grammar.specs.declared.tree.Base.TheVariants as base
-use Rattle.kt_grammar.specs.Tree.{Null, RuleValue, Transformed, Member, Pointed, Prefixed, Converted, Operated, Chosen}
+use Rattle.kt_grammar.specs.Tree.{Null, RuleValue, Transformed, Member, Pointed, Prefixed, Converted, Operated, Chosen, Parenthesised}
 use Rattle.kt_typing.specs.declared.fault.Kind.TheVariants as kind
 use Rattle.kt_typing.specs.Faults.{fault_at, unknown, bad_type}
 use Rattle.kt_typing.specs.Rows.{name, named, number, type_name, old}
 use Rattle.xf_syntax.specs.declared.tree.Target.TheVariants as target
 use Rattle.xf_syntax.specs.declared.tree.Side.TheVariants as side
-use Rattle.xf_syntax.specs.Tree.{Started, Moved, Rule, Conditional, Assigned}
+use Rattle.xf_syntax.specs.Tree.{StructsPaired, Started, Moved, Rule, Empty, Conditional, Alternative, Assigned}
 use Rattle.xf_rules.specs.Plans.{Refusal, Faulty}
 use Rattle.xf_rules.specs.Fragments.{struct, fresh, body}
 
@@ -107,4 +107,72 @@ refused_bodies =
     ∷ ((Moved (side.Target (target.Global (name 0 (codes "ps")))) (side.Target (target.Global (name 6 (codes "ps")))) (body 10 34 ((Assigned (RuleValue 11 word.Out) (Operated binary.Add (number 18 1) (Transformed 22 (RuleValue 29 word.In)))) ∷ [])) ∷ []), Faulty (bad_type 22))
     -- ps -> ps: {if ($xform($in)) $out = NULL;}
     ∷ ((Moved (side.Target (target.Global (name 0 (codes "ps")))) (side.Target (target.Global (name 6 (codes "ps")))) (body 10 40 ((Conditional (Transformed 15 (RuleValue 22 word.In)) (Assigned (RuleValue 28 word.Out) (Null 35))) ∷ [])) ∷ []), Faulty (bad_type 15))
+    -- g -> g: { $in = 1; }
+    ∷ ((Moved (side.Target (target.Global (name 0 (codes "g")))) (side.Target (target.Global (name 5 (codes "g")))) (body 8 19 ((Assigned (RuleValue 10 word.In) (number 16 1)) ∷ [])) ∷ []), Faulty (fault_at kind.WritesIn 10))
+    -- g -> g: { $oldsym(gl) = 1; }
+    ∷ ((Moved (side.Target (target.Global (name 0 (codes "g")))) (side.Target (target.Global (name 5 (codes "g")))) (body 8 27 ((Assigned (old 10 18 (codes "gl")) (number 24 1)) ∷ [])) ∷ []), Faulty (fault_at kind.WritesIn 10))
+    -- g -> g: { $in + 1 = zz; }
+    ∷ ((Moved (side.Target (target.Global (name 0 (codes "g")))) (side.Target (target.Global (name 5 (codes "g")))) (body 8 24 ((Assigned (Operated binary.Add (RuleValue 10 word.In) (number 16 1)) (named 20 (codes "zz"))) ∷ [])) ∷ []), Faulty (fault_at kind.WritesIn 10))
+    -- st -> g: { $in = 1; }
+    ∷ ((Moved (side.Target (target.Global (name 0 (codes "st")))) (side.Target (target.Global (name 6 (codes "g")))) (body 9 20 ((Assigned (RuleValue 11 word.In) (number 17 1)) ∷ [])) ∷ []), Faulty (bad_type 11))
+    -- st -> g: { $in.v = 1; }
+    ∷ ((Moved (side.Target (target.Global (name 0 (codes "st")))) (side.Target (target.Global (name 6 (codes "g")))) (body 9 22 ((Assigned (Member (RuleValue 11 word.In) (name 15 (codes "v"))) (number 19 1)) ∷ [])) ∷ []), Faulty (fault_at kind.WritesIn 11))
+    -- g -> g: { NULL = 1; }
+    ∷ ((Moved (side.Target (target.Global (name 0 (codes "g")))) (side.Target (target.Global (name 5 (codes "g")))) (body 8 20 ((Assigned (Null 10) (number 17 1)) ∷ [])) ∷ []), Faulty (fault_at kind.WritesIn 10))
+    -- g -> g: { $out + 1 = 2; }
+    ∷ ((Moved (side.Target (target.Global (name 0 (codes "g")))) (side.Target (target.Global (name 5 (codes "g")))) (body 8 24 ((Assigned (Operated binary.Add (RuleValue 10 word.Out) (number 17 1)) (number 21 2)) ∷ [])) ∷ []), Faulty (bad_type 10))
+    -- g -> g: { (($in)) = 1; }
+    ∷ ((Moved (side.Target (target.Global (name 0 (codes "g")))) (side.Target (target.Global (name 5 (codes "g")))) (body 8 23 ((Assigned (Parenthesised 10 (Parenthesised 11 (RuleValue 12 word.In))) (number 20 1)) ∷ [])) ∷ []), Faulty (fault_at kind.WritesIn 10))
+    -- ps -> ps: {$out = $new(struct Z, 0);}
+    ∷ ((Moved (side.Target (target.Global (name 0 (codes "ps")))) (side.Target (target.Global (name 6 (codes "ps")))) (body 10 36 ((Assigned (RuleValue 11 word.Out) (fresh 18 (type_name (base.Struct (name 30 (codes "Z"))) 0) 33 0)) ∷ [])) ∷ []), Faulty (unknown 30))
+    -- ps -> ps: {$out = $new(struct T, 0);}
+    ∷ ((Moved (side.Target (target.Global (name 0 (codes "ps")))) (side.Target (target.Global (name 6 (codes "ps")))) (body 10 36 ((Assigned (RuleValue 11 word.Out) (fresh 18 (type_name (base.Struct (name 30 (codes "T"))) 0) 33 0)) ∷ [])) ∷ []), Faulty (bad_type 33))
+    -- ps -> ps: {$out = $new(struct S *, 1);}
+    ∷ ((Moved (side.Target (target.Global (name 0 (codes "ps")))) (side.Target (target.Global (name 6 (codes "ps")))) (body 10 38 ((Assigned (RuleValue 11 word.Out) (fresh 18 (type_name (base.Struct (name 30 (codes "S"))) 1) 35 1)) ∷ [])) ∷ []), Faulty (bad_type 18))
+    -- g -> g: {$out = $new(int, 1);}
+    ∷ ((Moved (side.Target (target.Global (name 0 (codes "g")))) (side.Target (target.Global (name 5 (codes "g")))) (body 8 29 ((Assigned (RuleValue 9 word.Out) (fresh 16 (type_name base.Int 0) 26 1)) ∷ [])) ∷ []), Faulty (bad_type 16))
+    -- ps -> ps: {if ($new(struct S, 1)) ;}
+    ∷ ((Moved (side.Target (target.Global (name 0 (codes "ps")))) (side.Target (target.Global (name 6 (codes "ps")))) (body 10 35 ((Conditional (fresh 15 (type_name (base.Struct (name 27 (codes "S"))) 0) 30 1) Empty) ∷ [])) ∷ []), Faulty (bad_type 15))
+    -- ps -> ps: {$out = $in ? $in : NULL;}
+    ∷ ((Moved (side.Target (target.Global (name 0 (codes "ps")))) (side.Target (target.Global (name 6 (codes "ps")))) (body 10 35 ((Assigned (RuleValue 11 word.Out) (Chosen (RuleValue 18 word.In) (RuleValue 24 word.In) (Null 30))) ∷ [])) ∷ []), Faulty (bad_type 24))
+    -- ps -> ps: {$out = $oldsym(st) ? NULL : NULL;}
+    ∷ ((Moved (side.Target (target.Global (name 0 (codes "ps")))) (side.Target (target.Global (name 6 (codes "ps")))) (body 10 44 ((Assigned (RuleValue 11 word.Out) (Chosen (old 18 26 (codes "st")) (Null 32) (Null 39))) ∷ [])) ∷ []), Faulty (bad_type 18))
+    -- gp -> ps: {$out = $xform($in);}
+    ∷ ((Moved (side.Target (target.Global (name 0 (codes "gp")))) (side.Target (target.Global (name 6 (codes "ps")))) (body 10 30 ((Assigned (RuleValue 11 word.Out) (Transformed 18 (RuleValue 25 word.In))) ∷ [])) ∷ []), Faulty (bad_type 18))
+    -- struct S -> struct T; ps -> ps: {$out = $xform($in);}
+    ∷ ((StructsPaired (struct 0 (name 7 (codes "S"))) (struct 12 (name 19 (codes "T"))) ∷ Moved (side.Target (target.Global (name 22 (codes "ps")))) (side.Target (target.Global (name 28 (codes "ps")))) (body 32 52 ((Assigned (RuleValue 33 word.Out) (Transformed 40 (RuleValue 47 word.In))) ∷ [])) ∷ []), Faulty (bad_type 40))
+    -- struct T -> struct S; INIT struct S.v: {$out = $base.v;}
+    ∷ ((StructsPaired (struct 0 (name 7 (codes "T"))) (struct 12 (name 19 (codes "S"))) ∷ Started (target.Field (struct 27 (name 34 (codes "S"))) (name 36 (codes "v"))) (body 39 55 ((Assigned (RuleValue 40 word.Out) (Member (RuleValue 47 word.Base) (name 53 (codes "v")))) ∷ [])) ∷ []), Faulty (unknown 53))
+    -- INIT st: { }
+    ∷ ((Started (target.Global (name 5 (codes "st"))) (body 9 11 []) ∷ []), Faulty (bad_type 5))
+    -- INIT struct S.a: { }
+    ∷ ((Started (target.Field (struct 5 (name 12 (codes "S"))) (name 14 (codes "a"))) (body 17 19 []) ∷ []), Faulty (bad_type 5))
+    -- INIT struct S.m: { }
+    ∷ ((Started (target.Field (struct 5 (name 12 (codes "S"))) (name 14 (codes "m"))) (body 17 19 []) ∷ []), Faulty (bad_type 5))
+    -- g -> g: {$out = $oldsym(main);}
+    ∷ ((Moved (side.Target (target.Global (name 0 (codes "g")))) (side.Target (target.Global (name 5 (codes "g")))) (body 8 30 ((Assigned (RuleValue 9 word.Out) (old 16 24 (codes "main"))) ∷ [])) ∷ []), Faulty (unknown 24))
+    -- g -> g: {$out = h;}
+    ∷ ((Moved (side.Target (target.Global (name 0 (codes "g")))) (side.Target (target.Global (name 5 (codes "g")))) (body 8 18 ((Assigned (RuleValue 9 word.Out) (named 16 (codes "h"))) ∷ [])) ∷ []), Faulty (unknown 16))
+    -- ar -> g: {$out = *$in;}
+    ∷ ((Moved (side.Target (target.Global (name 0 (codes "ar")))) (side.Target (target.Global (name 6 (codes "g")))) (body 9 22 ((Assigned (RuleValue 10 word.Out) (Prefixed 17 prefix.Dereference (RuleValue 18 word.In))) ∷ [])) ∷ []), Faulty (bad_type 18))
+    -- f::z -> f::z: {$out = $base;}
+    ∷ ((Moved (side.Local (name 0 (codes "f")) (name 3 (codes "z"))) (side.Local (name 8 (codes "f")) (name 11 (codes "z"))) (body 14 28 ((Assigned (RuleValue 15 word.Out) (RuleValue 22 word.Base)) ∷ [])) ∷ []), Faulty (unknown 22))
+    -- INIT g: { if ($in) ; }
+    ∷ ((Started (target.Global (name 5 (codes "g"))) (body 8 21 ((Conditional (RuleValue 14 word.In) Empty) ∷ [])) ∷ []), Faulty (unknown 14))
+    -- g -> zz: { $out = yy; }
+    ∷ ((Moved (side.Target (target.Global (name 0 (codes "g")))) (side.Target (target.Global (name 5 (codes "zz")))) (body 9 22 ((Assigned (RuleValue 11 word.Out) (named 18 (codes "yy"))) ∷ [])) ∷ []), Faulty (unknown 5))
+    -- g -> g: {$out = $xform(zz);}
+    ∷ ((Moved (side.Target (target.Global (name 0 (codes "g")))) (side.Target (target.Global (name 5 (codes "g")))) (body 8 27 ((Assigned (RuleValue 9 word.Out) (Transformed 16 (named 23 (codes "zz")))) ∷ [])) ∷ []), Faulty (unknown 23))
+    -- g -> g: {$out = (long)$oldsym(st);}
+    ∷ ((Moved (side.Target (target.Global (name 0 (codes "g")))) (side.Target (target.Global (name 5 (codes "g")))) (body 8 34 ((Assigned (RuleValue 9 word.Out) (Converted 16 (type_name base.Long 0) (old 22 30 (codes "st")))) ∷ [])) ∷ []), Faulty (bad_type 22))
+    -- g -> g: {$out = (struct S *)$oldsym(ps);}
+    ∷ ((Moved (side.Target (target.Global (name 0 (codes "g")))) (side.Target (target.Global (name 5 (codes "g")))) (body 8 40 ((Assigned (RuleValue 9 word.Out) (Converted 16 (type_name (base.Struct (name 24 (codes "S"))) 1) (old 28 36 (codes "ps")))) ∷ [])) ∷ []), Faulty (bad_type 16))
+    -- tx -> tx: {$out = $new(char, 65537);}
+    ∷ ((Moved (side.Target (target.Global (name 0 (codes "tx")))) (side.Target (target.Global (name 6 (codes "tx")))) (body 10 36 ((Assigned (RuleValue 11 word.Out) (fresh 18 (type_name base.Char 0) 29 65537)) ∷ [])) ∷ []), Faulty (bad_type 29))
+    -- g -> g: { if (1) $out = zz; else $out = yy; }
+    ∷ ((Moved (side.Target (target.Global (name 0 (codes "g")))) (side.Target (target.Global (name 5 (codes "g")))) (body 8 44 ((Alternative (number 14 1) (Assigned (RuleValue 17 word.Out) (named 24 (codes "zz"))) (Assigned (RuleValue 33 word.Out) (named 40 (codes "yy")))) ∷ [])) ∷ []), Faulty (unknown 24))
+    -- ps -> ps: {$out = $new(int, 0) ;}
+    ∷ ((Moved (side.Target (target.Global (name 0 (codes "ps")))) (side.Target (target.Global (name 6 (codes "ps")))) (body 10 32 ((Assigned (RuleValue 11 word.Out) (fresh 18 (type_name base.Int 0) 28 0)) ∷ [])) ∷ []), Faulty (bad_type 28))
+    -- ps -> ps: {$out = $in ? $new(struct S, 0) : 0;}
+    ∷ ((Moved (side.Target (target.Global (name 0 (codes "ps")))) (side.Target (target.Global (name 6 (codes "ps")))) (body 10 46 ((Assigned (RuleValue 11 word.Out) (Chosen (RuleValue 18 word.In) (fresh 24 (type_name (base.Struct (name 36 (codes "S"))) 0) 39 0) (number 44 0))) ∷ [])) ∷ []), Faulty (bad_type 39))
     ∷ []

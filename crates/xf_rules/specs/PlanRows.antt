@@ -4,7 +4,7 @@ use Rattle.kt_grammar.specs.declared.operator.BinaryOperator.TheVariants as bina
 use Rattle.kt_grammar.specs.declared.operator.PrefixOperator.TheVariants as prefix
 use Rattle.kt_grammar.specs.declared.keyword.RuleWord.TheVariants as word
 use Rattle.kt_grammar.specs.declared.tree.Base.TheVariants as base
-use Rattle.kt_grammar.specs.Tree.{Null, RuleValue, Transformed, Element, Member, Pointed, Prefixed, Converted, Operated, Chosen, Parenthesised}
+use Rattle.kt_grammar.specs.Tree.{Null, Eof, RuleValue, Transformed, Element, Member, Pointed, Prefixed, Converted, Operated, Chosen, Parenthesised}
 use Rattle.kt_typing.specs.Rows.{name, number, type_name, old}
 use Rattle.xf_syntax.specs.declared.tree.Target.TheVariants as target
 use Rattle.xf_syntax.specs.declared.tree.Side.TheVariants as side
@@ -130,4 +130,30 @@ accepted =
     ∷ (Moved (side.Target (target.Global (name 0 (codes "ps")))) (side.Target (target.Global (name 6 (codes "ps")))) (body 10 69 ((Assigned (RuleValue 11 word.Out) (Chosen (RuleValue 18 word.In) (Transformed 24 (RuleValue 31 word.In)) (Chosen (RuleValue 38 word.In) (Null 44) (fresh 51 (type_name (base.Struct (name 63 (codes "S"))) 0) 66 1)))) ∷ [])) ∷ [])
     -- struct S.next -> struct S.t: {$out = $xform($in->t);}
     ∷ (Moved (side.Target (target.Field (struct 0 (name 7 (codes "S"))) (name 9 (codes "next")))) (side.Target (target.Field (struct 17 (name 24 (codes "S"))) (name 26 (codes "t")))) (body 29 52 ((Assigned (RuleValue 30 word.Out) (Transformed 37 (Pointed (RuleValue 44 word.In) (name 49 (codes "t"))))) ∷ [])) ∷ [])
+    -- struct S.v -> struct S.v; struct S.v -> struct S.l;
+    ∷ (Moved (side.Target (target.Field (struct 0 (name 7 (codes "S"))) (name 9 (codes "v")))) (side.Target (target.Field (struct 14 (name 21 (codes "S"))) (name 23 (codes "v")))) None ∷ Moved (side.Target (target.Field (struct 26 (name 33 (codes "S"))) (name 35 (codes "v")))) (side.Target (target.Field (struct 40 (name 47 (codes "S"))) (name 49 (codes "l")))) None ∷ [])
+    -- f::q -> f::q; f::q -> f::r;
+    ∷ (Moved (side.Local (name 0 (codes "f")) (name 3 (codes "q"))) (side.Local (name 8 (codes "f")) (name 11 (codes "q"))) None ∷ Moved (side.Local (name 14 (codes "f")) (name 17 (codes "q"))) (side.Local (name 22 (codes "f")) (name 25 (codes "r"))) None ∷ [])
+    -- struct U -> struct U;
+    ∷ (StructsPaired (struct 0 (name 7 (codes "U"))) (struct 12 (name 19 (codes "U"))) ∷ [])
+    -- ar -> g: {$out = $in[0];}
+    ∷ (Moved (side.Target (target.Global (name 0 (codes "ar")))) (side.Target (target.Global (name 6 (codes "g")))) (body 9 24 ((Assigned (RuleValue 10 word.Out) (Element (RuleValue 17 word.In) (number 21 0))) ∷ [])) ∷ [])
+    -- tx -> tx: {$out = $new(char, 65536);}
+    ∷ (Moved (side.Target (target.Global (name 0 (codes "tx")))) (side.Target (target.Global (name 6 (codes "tx")))) (body 10 36 ((Assigned (RuleValue 11 word.Out) (fresh 18 (type_name base.Char 0) 29 65536)) ∷ [])) ∷ [])
+    -- tx -> tx: {$out = ($in ? (NULL) : ($xform($in)));}
+    ∷ (Moved (side.Target (target.Global (name 0 (codes "tx")))) (side.Target (target.Global (name 6 (codes "tx")))) (body 10 49 ((Assigned (RuleValue 11 word.Out) (Parenthesised 18 (Chosen (RuleValue 19 word.In) (Parenthesised 25 (Null 26)) (Parenthesised 34 (Transformed 35 (RuleValue 42 word.In)))))) ∷ [])) ∷ [])
+    -- g -> g: {($out) = $oldsym(ar)[1] + $oldsym(st).a[0];}
+    ∷ (Moved (side.Target (target.Global (name 0 (codes "g")))) (side.Target (target.Global (name 5 (codes "g")))) (body 8 52 ((Assigned (Parenthesised 9 (RuleValue 10 word.Out)) (Operated binary.Add (Element (old 18 26 (codes "ar")) (number 30 1)) (Element (Member (old 35 43 (codes "st")) (name 47 (codes "a"))) (number 49 0)))) ∷ [])) ∷ [])
+    -- st -> g: {$out = $in.a[1];}
+    ∷ (Moved (side.Target (target.Global (name 0 (codes "st")))) (side.Target (target.Global (name 6 (codes "g")))) (body 9 26 ((Assigned (RuleValue 10 word.Out) (Element (Member (RuleValue 17 word.In) (name 21 (codes "a"))) (number 23 1))) ∷ [])) ∷ [])
+    -- struct S.a -> struct S.v: {$out = $in[0] + $base.a[1] + *$base.a;}
+    ∷ (Moved (side.Target (target.Field (struct 0 (name 7 (codes "S"))) (name 9 (codes "a")))) (side.Target (target.Field (struct 14 (name 21 (codes "S"))) (name 23 (codes "v")))) (body 26 65 ((Assigned (RuleValue 27 word.Out) (Operated binary.Add (Operated binary.Add (Element (RuleValue 34 word.In) (number 38 0)) (Element (Member (RuleValue 43 word.Base) (name 49 (codes "a"))) (number 51 1))) (Prefixed 56 prefix.Dereference (Member (RuleValue 57 word.Base) (name 63 (codes "a")))))) ∷ [])) ∷ [])
+    -- INIT g: {$out = EOF;}
+    ∷ (Started (target.Global (name 5 (codes "g"))) (body 8 20 ((Assigned (RuleValue 9 word.Out) (Eof 16)) ∷ [])) ∷ [])
+    -- g -> g: {$out = $oldsym(gp) == NULL;}
+    ∷ (Moved (side.Target (target.Global (name 0 (codes "g")))) (side.Target (target.Global (name 5 (codes "g")))) (body 8 36 ((Assigned (RuleValue 9 word.Out) (Operated binary.Equal (old 16 24 (codes "gp")) (Null 31))) ∷ [])) ∷ [])
+    -- g -> g: {$out = NULL == NULL;}
+    ∷ (Moved (side.Target (target.Global (name 0 (codes "g")))) (side.Target (target.Global (name 5 (codes "g")))) (body 8 29 ((Assigned (RuleValue 9 word.Out) (Operated binary.Equal (Null 16) (Null 24))) ∷ [])) ∷ [])
+    -- INIT gl; INIT ps; INIT struct S.t; INIT ar;
+    ∷ (Started (target.Global (name 5 (codes "gl"))) None ∷ Started (target.Global (name 14 (codes "ps"))) None ∷ Started (target.Field (struct 23 (name 30 (codes "S"))) (name 32 (codes "t"))) None ∷ Started (target.Global (name 40 (codes "ar"))) None ∷ [])
     ∷ []
