@@ -8,13 +8,15 @@ use Rattle.kt_tree.specs.Version.{Program}
 use Rattle.xf_plan.specs.Plan.{Plan}
 use Rattle.xf_syntax.specs.Tree.{Rule}
 use Rattle.xf_rules.specs.Completion.{Goal}
-use Rattle.xf_rules.specs.Examples.{wide}
+use Rattle.xf_rules.specs.CrossRows.{refused_between, accepted_between}
+use Rattle.xf_rules.specs.Examples.{wide, nodes, aged_nodes, kept, kept_longer}
 use Rattle.xf_rules.specs.Files.{file}
 use Rattle.xf_rules.specs.Judgments.{first_wrong}
-use Rattle.xf_rules.specs.Plans.{planned, Refusal, Faulty, NeedsRule, IsRefusedBy, IsRefused, IsAccepted}
+use Rattle.xf_rules.specs.Plans.{planned, Refusal, Faulty, NeedsRule, IsPlanOf, IsRefusedBy, IsRefused, IsAccepted, IsRefusedBetween, IsAcceptedBetween}
 use Rattle.xf_rules.specs.SideRows.{refused_sides, needing}
 use Rattle.xf_rules.specs.BodyRows.{refused_bodies}
 use Rattle.xf_rules.specs.PlanRows.{accepted}
+use Rattle.xf_rules.specs.WholePlans.{age_rule, aging, kept_rules, keeping}
 use Rattle.xf_rules.proofs.Exact.{found-first}
 
 module _ (old new : Program) where
@@ -73,3 +75,33 @@ bodies = all-refused wide wide refused_bodies refl
 pub plans : AllByRecursion (IsAccepted wide wide) accepted
 unfolding layout place_cells struct_cells repeated
 plans = all-accepted wide wide accepted refl
+
+-- ---- rows with both versions
+
+all-refused-between : (rows : List ((Program × Program) × (List Rule × Refusal)))
+    → map (λ r. answered r.0.0 r.0.1 r.1.0 r.1.1) rows ≡ map (λ r. Some r.1.1) rows → AllByRecursion IsRefusedBetween rows
+all-refused-between [] e = tt
+all-refused-between (r ∷ rows) e = (refused-by r.0.0 r.0.1 r.1.0 r.1.1 cc, all-refused-between rows cc)
+
+all-accepted-between : (rows : List ((Program × Program) × List Rule))
+    → map (λ r. is_planned r.0.0 r.0.1 (planned r.0.0 r.0.1 r.1)) rows ≡ map (λ r. true) rows → AllByRecursion IsAcceptedBetween rows
+all-accepted-between [] e = tt
+all-accepted-between (r ∷ rows) e = (some-plan r.0.0 r.0.1 (planned r.0.0 r.0.1 r.1) cc, all-accepted-between rows cc)
+
+pub refused-rows : AllByRecursion IsRefusedBetween refused_between
+unfolding layout place_cells struct_cells repeated
+refused-rows = all-refused-between refused_between refl
+
+pub accepted-rows : AllByRecursion IsAcceptedBetween accepted_between
+unfolding layout place_cells struct_cells repeated
+accepted-rows = all-accepted-between accepted_between refl
+
+-- ---- whole plans
+
+pub aging-plan : IsPlanOf nodes aged_nodes age_rule aging
+unfolding layout place_cells struct_cells repeated
+aging-plan = refl
+
+pub keeping-plan : IsPlanOf kept kept_longer kept_rules keeping
+unfolding layout place_cells struct_cells repeated
+keeping-plan = refl

@@ -132,9 +132,31 @@ closed = version
 abbrev pub unused : Program
 unused = version
     (record {
-      types = ty.Char ∷ ty.Int ∷ ty.Long ∷ ty.Mutex ∷ ty.Ptr 1 ∷ ty.Struct 0 ∷ ty.Ptr 5 ∷ ty.Ptr 6 ∷ [];
-      structs = codes "A" ∷ codes "B" ∷ [];
-      defined = record { number = 0; fields = field (codes "k") 1 view.One ∷ [] } ∷ record { number = 1; fields = field (codes "x") 1 view.One ∷ field (codes "a") 6 view.One ∷ [] } ∷ [];
+      types = ty.Char ∷ ty.Int ∷ ty.Long ∷ ty.Mutex ∷ ty.Ptr 1 ∷ ty.Struct 1 ∷ ty.Ptr 5 ∷ ty.Ptr 6 ∷ [];
+      structs = codes "B" ∷ codes "A" ∷ [];
+      defined = record { number = 1; fields = field (codes "k") 1 view.One ∷ [] } ∷ record { number = 0; fields = field (codes "x") 1 view.One ∷ field (codes "a") 6 view.One ∷ [] } ∷ [];
     })
     (global (codes "n") 1 1 false view.One ∷ [])
     (function (codes "main") 0 false [] ∷ [])
+
+-- int f(int k) E_NOTELOCALS { int i; } int main(void) {}
+abbrev pub kept : Program
+kept = version
+    (record {
+      types = ty.Char ∷ ty.Int ∷ ty.Long ∷ ty.Mutex ∷ [];
+      structs = [];
+      defined = [];
+    })
+    ([])
+    (function (codes "f") 1 true (field (codes "k") 1 view.One ∷ field (codes "i") 1 view.One ∷ []) ∷ function (codes "main") 0 false [] ∷ [])
+
+-- int main(void) {} int f(int k) E_NOTELOCALS { long i; int j; char n; int o; }
+abbrev pub kept_longer : Program
+kept_longer = version
+    (record {
+      types = ty.Char ∷ ty.Int ∷ ty.Long ∷ ty.Mutex ∷ [];
+      structs = [];
+      defined = [];
+    })
+    ([])
+    (function (codes "main") 0 false [] ∷ function (codes "f") 1 true (field (codes "k") 1 view.One ∷ field (codes "i") 2 view.One ∷ field (codes "j") 1 view.One ∷ field (codes "n") 0 view.One ∷ field (codes "o") 1 view.One ∷ []) ∷ [])

@@ -2,6 +2,7 @@ pub mod Bodies
 pub mod BodyRows
 pub mod Code
 pub mod Completion
+pub mod CrossRows
 pub mod Examples
 pub mod Files
 pub mod Fragments
@@ -15,3 +16,4 @@ pub mod Rules
 pub mod SideRows
 pub mod Things
 pub mod Types
+pub mod WholePlans

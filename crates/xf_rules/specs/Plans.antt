@@ -63,3 +63,11 @@ IsRefused old new row = IsRefusedBy old new row.0 row.1
 
 abbrev pub IsAccepted : Program → Program → List Rule → Type 0
 IsAccepted old new rules = (p : Plan) × IsPlanOf old new rules p
+
+-- the same of rows with both versions
+
+abbrev pub IsRefusedBetween : (Program × Program) × (List Rule × Refusal) → Type 0
+IsRefusedBetween row = IsRefusedBy row.0.0 row.0.1 row.1.0 row.1.1
+
+abbrev pub IsAcceptedBetween : (Program × Program) × List Rule → Type 0
+IsAcceptedBetween row = IsAccepted row.0.0 row.0.1 row.1

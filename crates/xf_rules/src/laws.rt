@@ -8,12 +8,14 @@ ghost use Rattle.kt_typing.specs.Faults.{IsFirst};
 ghost use Rattle.xf_plan.specs.Plan.{Plan};
 ghost use Rattle.xf_syntax.specs.Tree.{Rule};
 ghost use Rattle.xf_rules.specs.BodyRows.{refused_bodies};
-ghost use Rattle.xf_rules.specs.Examples.{wide};
+ghost use Rattle.xf_rules.specs.CrossRows.{refused_between, accepted_between};
+ghost use Rattle.xf_rules.specs.Examples.{wide, nodes, aged_nodes, kept, kept_longer};
 ghost use Rattle.xf_rules.specs.Judgments.{Judgment, made, IsWrong, first_wrong};
 ghost use Rattle.xf_rules.specs.Made.{Made};
 ghost use Rattle.xf_rules.specs.PlanRows.{accepted};
-ghost use Rattle.xf_rules.specs.Plans.{IsPlanOf, IsFaultOf, Refusal, NeedsRule, IsRefusedBy, IsRefused, IsAccepted};
+ghost use Rattle.xf_rules.specs.Plans.{IsPlanOf, IsFaultOf, Refusal, NeedsRule, IsRefusedBy, IsRefused, IsAccepted, IsRefusedBetween, IsAcceptedBetween};
 ghost use Rattle.xf_rules.specs.SideRows.{refused_sides, needing};
+ghost use Rattle.xf_rules.specs.WholePlans.{age_rule, aging, kept_rules, keeping};
 
 /// What is judged gives something where nothing is wrong, and else there is a first fault; never both. There is one first
 /// fault at most, and it is what is found part by part.
@@ -34,10 +36,14 @@ pub fn plan_law()
     ensures one_refusal { (old new : Program) (rules : List Rule) (r s : Refusal) → IsRefusedBy old new rules r → IsRefusedBy old new rules s → r ≡ s }
 {}
 
-/// Worked rows: files that are refused, and files that give a plan.
+/// Worked rows: files that are refused, files that give a plan, and files with all of their plan.
 pub fn rows_law()
     ensures sides { AllByRecursion (IsRefused wide wide) refused_sides }
     ensures bodies { AllByRecursion (IsRefused wide wide) refused_bodies }
     ensures needing { AllByRecursion (IsRefused wide wide) needing }
     ensures accepted { AllByRecursion (IsAccepted wide wide) accepted }
+    ensures refused_between { AllByRecursion IsRefusedBetween refused_between }
+    ensures accepted_between { AllByRecursion IsAcceptedBetween accepted_between }
+    ensures aging { IsPlanOf nodes aged_nodes age_rule aging }
+    ensures keeping { IsPlanOf kept kept_longer kept_rules keeping }
 {}
