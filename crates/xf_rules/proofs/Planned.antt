@@ -1,16 +1,15 @@
 -- A rule file gives one plan, or one thing refuses it.
-use Rattle.std.proofs.Common.{◌≡◌, List, Option, Some, None, Result, Ok, Err, refl, ap, ◌∙◌, sym}
+use Rattle.std.proofs.Common.{◌≡◌, List, Option, Some, None, Result, Ok, Err, refl, ap}
 use Rattle.std.specs.Option.{option_map}
 use Rattle.kt_tree.specs.Version.{Program}
 use Rattle.kt_typing.specs.declared.fault.Fault.{Fault}
-use Rattle.kt_typing.specs.Faults.{IsFirst}
 use Rattle.kt_typing.proofs.Firsts.{one-first}
 use Rattle.xf_plan.specs.Plan.{Plan}
 use Rattle.xf_syntax.specs.Tree.{Rule}
 use Rattle.xf_rules.specs.Completion.{Goal, completed}
 use Rattle.xf_rules.specs.Files.{file}
-use Rattle.xf_rules.specs.Judgments.{made, IsWrong}
-use Rattle.xf_rules.specs.Made.{Made, TypedRule, rules_in}
+use Rattle.xf_rules.specs.Judgments.{made}
+use Rattle.xf_rules.specs.Made.{Made, rules_in}
 use Rattle.xf_rules.specs.Pairs.{related}
 use Rattle.xf_rules.specs.Plans.{planned, IsPlanOf, IsFaultOf, Refusal, Faulty, NeedsRule, IsRefusedBy}
 use Rattle.xf_rules.proofs.Exact.{right, first-there}

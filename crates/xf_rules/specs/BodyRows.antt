@@ -1,5 +1,5 @@
 -- Worked rows of bodies; both versions are the wide one.
-use Rattle.std.specs.Prelude.{ℕ, true, false, List, [], ◌∷◌, ◌≡◌, codes, Option, Some, None, Ok, Err}
+use Rattle.std.specs.Prelude.{List, [], ◌∷◌, codes}
 use Rattle.kt_grammar.specs.declared.operator.BinaryOperator.TheVariants as binary
 use Rattle.kt_grammar.specs.declared.operator.PrefixOperator.TheVariants as prefix
 use Rattle.kt_grammar.specs.declared.keyword.RuleWord.TheVariants as word

@@ -1,5 +1,5 @@
 -- What rule code is typed in: the old version's memory, told by its globals, the source of the rule and the struct that holds it.
-use Rattle.std.specs.Prelude.{ℕ, suc, Bool, true, false, List, [], ◌∷◌, map, slice_get, Option, None, Some, option_and_then}
+use Rattle.std.specs.Prelude.{ℕ, Bool, true, false, [], ◌∷◌, map, slice_get, Option, None, Some, option_and_then}
 use Rattle.std.specs.Option.{option_map}
 use Rattle.kt_grammar.specs.declared.keyword.RuleWord.{RuleWord}
 use Rattle.kt_grammar.specs.declared.keyword.RuleWord.TheVariants as word

@@ -1,5 +1,5 @@
 -- The versions of worked rows.
-use Rattle.std.specs.Prelude.{true, false, List, [], ◌∷◌, codes}
+use Rattle.std.specs.Prelude.{true, false, [], ◌∷◌, codes}
 use Rattle.kt_types.specs.declared.kinds.Ty.TheVariants as ty
 use Rattle.kt_types.specs.declared.kinds.View.TheVariants as view
 use Rattle.kt_tree.specs.Version.{Program}

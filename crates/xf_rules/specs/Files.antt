@@ -1,7 +1,6 @@
 -- What is judged of a whole rule file.
-use Rattle.std.specs.Prelude.{ℕ, List, [], ◌∷◌, ◌++◌, flat_map}
+use Rattle.std.specs.Prelude.{List, [], ◌∷◌, ◌++◌, flat_map}
 use Rattle.kt_tree.specs.Version.{Program}
-use Rattle.xf_syntax.specs.declared.tree.Target.{Target}
 use Rattle.xf_syntax.specs.declared.tree.Target.TheVariants as target
 use Rattle.xf_syntax.specs.declared.tree.Side.{Side}
 use Rattle.xf_syntax.specs.declared.tree.Side.TheVariants as side

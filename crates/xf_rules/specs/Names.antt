@@ -3,7 +3,7 @@ use Rattle.std.specs.Prelude.{ℕ, Bool, List, position, slice_get, Option, opti
 use Rattle.std.specs.Option.{is_some}
 use Rattle.std.specs.Str.{bytes_eq}
 use Rattle.kt_types.specs.declared.kinds.FieldDecl.{FieldDecl}
-use Rattle.kt_types.specs.Table.{Table, fields_of}
+use Rattle.kt_types.specs.Table.{fields_of}
 use Rattle.kt_tree.specs.Tree.{Function}
 use Rattle.kt_tree.specs.Version.{Program}
 

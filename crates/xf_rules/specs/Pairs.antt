@@ -1,10 +1,10 @@
 -- Which structs of two versions correspond, by a whole rule file and by default.
-use Rattle.std.specs.Prelude.{ℕ, suc, ◌&&◌, not, Bool, true, false, List, [], ◌∷◌, ◌++◌, map, flat_map, Option, None, Some, if◌then◌else◌}
+use Rattle.std.specs.Prelude.{ℕ, suc, ◌&&◌, not, Bool, false, List, [], ◌∷◌, ◌++◌, map, flat_map, Option, None, Some, if◌then◌else◌}
 use Rattle.std.specs.List.{list_any}
 use Rattle.std.specs.Str.{bytes_eq}
 use Rattle.kt_tree.specs.Version.{Program}
 use Rattle.xf_plan.specs.Plan.{Plan}
-use Rattle.xf_syntax.specs.Tree.{Rule, StructsPaired, Started, Moved}
+use Rattle.xf_syntax.specs.Tree.{Rule, StructsPaired}
 use Rattle.xf_rules.specs.Names.{struct_named, is_defined}
 use Rattle.xf_rules.specs.Types.{rule_types}
 

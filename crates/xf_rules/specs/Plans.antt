@@ -1,5 +1,5 @@
 -- The plan that a rule file gives for two versions; its faults; the thing that needs a rule.
-use Rattle.std.specs.Prelude.{◌≡◌, ℕ, List, [], ◌∷◌, ◌++◌, codes, slice_get, Option, None, Some, option_and_then, Result, Ok, Err}
+use Rattle.std.specs.Prelude.{◌≡◌, ℕ, List, [], ◌++◌, codes, slice_get, Option, None, Some, Result, Ok, Err}
 use Rattle.std.specs.Option.{option_map}
 use Rattle.kt_types.specs.declared.kinds.FieldDecl.{FieldDecl}
 use Rattle.kt_tree.specs.declared.global.GlobalDecl.{GlobalDecl}
@@ -12,7 +12,7 @@ use Rattle.xf_syntax.specs.Tree.{Rule}
 use Rattle.xf_rules.specs.Completion.{Goal, FieldGoal, GlobalGoal, LocalGoal, completed}
 use Rattle.xf_rules.specs.Files.{file}
 use Rattle.xf_rules.specs.Judgments.{made, IsWrong}
-use Rattle.xf_rules.specs.Made.{Made, TypedRule, rules_in}
+use Rattle.xf_rules.specs.Made.{TypedRule, rules_in}
 use Rattle.xf_rules.specs.Pairs.{related}
 use Rattle.xf_rules.specs.Things.{field_decl, local_decl}
 

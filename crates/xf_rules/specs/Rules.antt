@@ -1,8 +1,6 @@
 -- What is judged of a rule: its names, its two sides, and its body.
 use Rattle.std.specs.Prelude.{ℕ, ◌==◌, ◌&&◌, Bool, true, false, not, List, [], ◌∷◌, ◌++◌, slice_get, Option, None, Some, option_and_then, Result, Ok, Err, if◌then◌else◌}
-use Rattle.std.specs.List.{list_any}
 use Rattle.std.specs.Option.{is_some}
-use Rattle.kt_types.specs.Table.{Table}
 use Rattle.kt_tree.specs.Tree.{Function}
 use Rattle.kt_tree.specs.Version.{Program}
 use Rattle.kt_typing.specs.declared.fault.Fault.{Fault}
@@ -19,9 +17,9 @@ use Rattle.xf_rules.specs.Bodies.{Context, where_not, target_of, acts}
 use Rattle.xf_rules.specs.Bodies as body
 use Rattle.xf_rules.specs.Code.{Read, read_global, read_field, read_local, read_struct, code}
 use Rattle.xf_rules.specs.Judgments.{Judgment, Held, Judgments, NoMore, And}
-use Rattle.xf_rules.specs.Made.{Made, Nothing, Does, Rules, TypedRule, Paired, FieldRuled, GlobalRuled, LocalRuled, nothing, block}
-use Rattle.xf_rules.specs.Names.{global_named, struct_named, is_defined, function_named}
-use Rattle.xf_rules.specs.Things.{Thing, Global, Field, Local, target_place, side_place, thing_of_target, thing_of, unknown_names, type_of_thing, field_decl, local_decl, found}
+use Rattle.xf_rules.specs.Made.{Made, Nothing, Does, Rules, Paired, FieldRuled, GlobalRuled, LocalRuled, nothing, block}
+use Rattle.xf_rules.specs.Names.{struct_named, is_defined, function_named}
+use Rattle.xf_rules.specs.Things.{Thing, Global, Field, Local, target_place, side_place, thing_of_target, thing_of, unknown_names, type_of_thing, field_decl, local_decl}
 
 -- both versions, and which of their types correspond by the whole file
 pub record Versions : Type 0 where

@@ -1,5 +1,5 @@
 -- Worked rows of names, sides and things that stand twice, and of things that need a rule; both versions are the wide one.
-use Rattle.std.specs.Prelude.{ℕ, true, false, List, [], ◌∷◌, ◌≡◌, codes, Option, Some, None, Ok, Err}
+use Rattle.std.specs.Prelude.{List, [], ◌∷◌, codes, None}
 use Rattle.kt_typing.specs.declared.fault.Kind.TheVariants as kind
 use Rattle.kt_typing.specs.Faults.{fault_at, unknown, bad_type}
 use Rattle.kt_typing.specs.Rows.{name}

@@ -1,10 +1,10 @@
 -- The types of rule code: those of the old version, and behind them `char *`, pointers to what its globals, fields and structs
 -- are, and its structs, where it lacks them.
-use Rattle.std.specs.Prelude.{ℕ, suc, ◌==◌, Bool, true, false, List, [], ◌∷◌, ◌++◌, map, flat_map, position, slice_get, Option, None, Some, option_and_then, if◌then◌else◌}
+use Rattle.std.specs.Prelude.{ℕ, suc, ◌==◌, Bool, false, List, [], ◌∷◌, ◌++◌, map, flat_map, position, slice_get, Option, None, Some, if◌then◌else◌}
 use Rattle.std.specs.List.{list_any}
 use Rattle.kt_types.specs.declared.kinds.FieldDecl.{FieldDecl}
 use Rattle.kt_types.specs.declared.kinds.Ty.{Ty}
-use Rattle.kt_types.specs.declared.kinds.Ty.TheVariants.{Char, Int, Long, Mutex, Struct, Array, Ptr}
+use Rattle.kt_types.specs.declared.kinds.Ty.TheVariants.{Struct, Ptr}
 use Rattle.kt_types.specs.Table.{Table, Definition}
 use Rattle.kt_tree.specs.Kinds.{char_type, field_pointee_of}
 use Rattle.kt_tree.specs.Version.{Program}

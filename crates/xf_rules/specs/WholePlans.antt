@@ -1,5 +1,5 @@
 -- Worked rows: files with all of their plan.
-use Rattle.std.specs.Prelude.{ℕ, pos, List, [], ◌∷◌, codes, Option, Some, None}
+use Rattle.std.specs.Prelude.{ℕ, pos, List, [], ◌∷◌, codes, Some, None}
 use Rattle.kt_grammar.specs.declared.operator.BinaryOperator.TheVariants as binary
 use Rattle.kt_grammar.specs.declared.keyword.RuleWord.TheVariants as word
 use Rattle.kt_grammar.specs.Tree.{RuleValue, Member, Operated}
