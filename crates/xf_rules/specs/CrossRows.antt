@@ -11,7 +11,7 @@ use Rattle.xf_syntax.specs.declared.tree.Target.TheVariants as target
 use Rattle.xf_syntax.specs.declared.tree.Side.TheVariants as side
 use Rattle.xf_syntax.specs.Tree.{StructsPaired, Started, Moved, Rule, Assigned}
 use Rattle.xf_rules.specs.Completion.{GlobalGoal, LocalGoal}
-use Rattle.xf_rules.specs.Examples.{nodes, aged_nodes, long_t, int_t, int_a, int_b, array_a, longer_a, opened, closed, unused, kept, kept_longer}
+use Rattle.xf_rules.specs.Examples.{nodes, aged_nodes, long_t, int_t, int_a, int_b, array_a, longer_a, int_t_and_u, opened, closed, unused, kept, kept_longer}
 use Rattle.xf_rules.specs.Plans.{Refusal, Faulty, NeedsRule}
 use Rattle.xf_rules.specs.Fragments.{struct, fresh, body}
 
@@ -20,6 +20,8 @@ abbrev pub refused_between : List ((Program × Program) × (List Rule × Refusal
 refused_between =
     -- long_t to int_t: an empty file
     ((long_t, int_t), ([], NeedsRule (GlobalGoal 0)))
+    -- long_t to int_t_and_u: an empty file
+    ∷ ((long_t, int_t_and_u), ([], NeedsRule (GlobalGoal 0)))
     -- int_a to array_a: an empty file
     ∷ ((int_a, array_a), ([], NeedsRule (GlobalGoal 0)))
     -- array_a to int_a: an empty file
@@ -67,8 +69,10 @@ refused_between =
 -- files that give a plan
 abbrev pub accepted_between : List ((Program × Program) × List Rule)
 accepted_between =
+    -- long_t to int_t_and_u: t -> u;
+    ((long_t, int_t_and_u), (Moved (side.Target (target.Global (name 0 (codes "t")))) (side.Target (target.Global (name 5 (codes "u")))) None ∷ []))
     -- int_t to long_t: an empty file
-    ((int_t, long_t), [])
+    ∷ ((int_t, long_t), [])
     -- int_a to int_b: an empty file
     ∷ ((int_a, int_b), [])
     -- array_a to longer_a: an empty file

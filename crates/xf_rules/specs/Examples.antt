@@ -106,6 +106,17 @@ longer_a = version
     (global (codes "a") 1 3 true view.One ∷ [])
     (function (codes "main") 0 false [] ∷ [])
 
+-- int t; long u; int main(void) {}
+abbrev pub int_t_and_u : Program
+int_t_and_u = version
+    (record {
+      types = ty.Char ∷ ty.Int ∷ ty.Long ∷ ty.Mutex ∷ ty.Ptr 1 ∷ ty.Ptr 2 ∷ [];
+      structs = [];
+      defined = [];
+    })
+    (global (codes "t") 1 1 false view.One ∷ global (codes "u") 2 1 false view.One ∷ [])
+    (function (codes "main") 0 false [] ∷ [])
+
 -- struct A { int x; struct A *y; }; struct B; struct A *pa; struct B *pb; int main(void) {}
 abbrev pub opened : Program
 opened = version
