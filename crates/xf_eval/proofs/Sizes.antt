@@ -66,9 +66,10 @@ module _ (p : Plan) (whole : IsWhole p) where
       ap length (sym same) ∙ length-append ys zs ∙ (omega (arith, front, back)))
 
   of-pair : (at : ℕ → ℕ → Option (List Source)) → AreSized p.new at → (b r : ℕ) (fields : Option (List FieldDecl)) (xs : List Source) →
-      slice_get p.new.types b ≡ Some (Struct r) → HasRules p r → option_and_then (λ fs. of_fields p at fs (rules_of p r)) fields ≡ Some xs → Sized p.new b xs
-  of-pair at sized b r None xs is rules e = absurd (none-some xs e)
-  of-pair at sized b r (Some fs) xs is rules e =
+      slice_get p.new.types b ≡ Some (Struct r) → (IsSome fields → HasRules p r) → option_and_then (λ fs. of_fields p at fs (rules_of p r)) fields ≡ Some xs → Sized p.new b xs
+  of-pair at sized b r None xs is defined e = absurd (none-some xs e)
+  of-pair at sized b r (Some fs) xs is defined e =
+      let rules = defined tt in
       let (cs, has) = value-of (joined (layout p.new) rules.fields) rules.complete in
       let law = known-layout p.new b (Struct r) (whole.new_layouts b) is in
       let here : layout p.new b ≡ Some cs = law ∙ ap (option_and_then (joined (layout p.new))) rules.are ∙ has in

@@ -29,7 +29,7 @@ pub record IsWhole (p : Plan) : Type 0 where
   -- the layout of a type is that of its kind
   pub old_layouts : (a : ℕ) → IsFixed p.old a
   pub new_layouts : (b : ℕ) → IsFixed p.new b
-  -- each new struct that corresponds to an old one has a rule for each field
-  pub rules : (s r : ℕ) → is_pair p.structs s r ≡ true → HasRules p r
+  -- each new struct that corresponds to an old one with a definition has a rule for each field
+  pub rules : (s r : ℕ) → is_pair p.structs s r ≡ true → IsSome (fields_of p.old s) → HasRules p r
   pub bodies : (n : ℕ) (f : FieldRule) → slice_get p.fields n ≡ Some f → FillsCell p f.ty f.source
   pub globals : (n : ℕ) (g : GlobalRule) → slice_get p.globals n ≡ Some g → HasFewCells p g.source

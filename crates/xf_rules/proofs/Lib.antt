@@ -1,3 +1,6 @@
 pub mod Exact
+pub mod FewCells
+pub mod Given
+pub mod Once
 pub mod Planned
 pub mod Rows

@@ -32,15 +32,15 @@ pub record OldLocal : Type 0 where
   pub function : ℕ
   pub local : ℕ
 
+abbrev pub given_behind : {A : Type 0} → A → Result (List A) Goal → Result (List A) Goal
+given_behind x (Ok xs) = Ok (x ∷ xs)
+given_behind x (Err g) = Err g
+
 -- what each of several things gives, or the first that needs a rule
 abbrev pub all_given : {A : Type 0} → List (Result A Goal) → Result (List A) Goal
 all_given [] = Ok []
 all_given (Err g ∷ rest) = Err g
-all_given (Ok x ∷ rest) = behind x (all_given rest)
-  where
-    behind : {A : Type 0} → A → Result (List A) Goal → Result (List A) Goal
-    behind x (Ok xs) = Ok (x ∷ xs)
-    behind x (Err g) = Err g
+all_given (Ok x ∷ rest) = given_behind x (all_given rest)
 
 -- what is given, or else the thing needs a rule
 abbrev pub or_needs : {A : Type 0} → Goal → Option A → Result A Goal
@@ -112,14 +112,15 @@ abbrev pub is_taken_by : ℕ → TypedRule → Bool
 is_taken_by h (GlobalRuled g (Some k) b) = k == h
 is_taken_by h _ = false
 
+-- both are arrays, or none is
+abbrev pub same_form : Bool → Bool → Bool
+same_form true true = true
+same_form false false = true
+same_form x y = false
+
 -- an array converts to one as long or longer, anything else to what is no array either
 abbrev pub global_converts : Plan → GlobalDecl → GlobalDecl → Bool
 global_converts related a b = same_form a.array b.array && nat_le a.count b.count && converts related a.ty b.ty
-  where
-    same_form : Bool → Bool → Bool
-    same_form true true = true
-    same_form false false = true
-    same_form x y = false
 
 -- the old global of this number, where it converts by default
 abbrev pub old_global : Program → Plan → GlobalDecl → ℕ → Option GlobalSource
